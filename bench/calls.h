@@ -22,9 +22,9 @@ inline double seconds() {
 // A size that no blob of the raster passes, and some more.
 inline size_t room_for(const Raster &r) { return futskheri_greatest_size(r.kind, r.rows, r.cols, r.depth) + 1000; }
 
-inline size_t ours_encode(const Raster &r, uint32_t error, uint8_t *out, size_t room) {
+inline size_t ours_encode(const Raster &r, uint32_t version, uint32_t error, uint8_t *out, size_t room) {
     uint64_t size = 0;
-    uint32_t status = futskheri_encode(r.kind, r.rows, r.cols, r.depth, 4, error, r.values.data(), r.values.size(),
+    uint32_t status = futskheri_encode(r.kind, r.rows, r.cols, r.depth, version, error, r.values.data(), r.values.size(),
                                        r.mask.data(), r.is_masked ? r.mask.size() : 0, out, room, &size);
     if (status != FUTSKHERI_OK)
         fail("futskheri_encode answers " + std::to_string(status));

@@ -2,7 +2,8 @@
 // table: for each set and each library megabytes of raster a second of processor time (10^6 bytes, the best round),
 // how much faster Futskheri is, and the bytes of all blobs of the set. What is timed are the calls alone: every array
 // was written to before. Each library decodes the other's blobs too, to the same values and mask; where it does not,
-// or a value is further off than the error, the program ends with 1.
+// or a value is further off than the error, the program ends with 1. Behind the table stands, for each family of sets
+// and for all, the geometric mean of how much faster Futskheri is.
 // compare ROUNDS [WORD]: the sets whose names have the word in them, else all.
 #include "calls.h"
 #include <Lerc_c_api.h>
@@ -37,9 +38,9 @@ struct Blobs {
 
 // ---- Esri's library
 
-size_t theirs_encode(const Raster &r, uint32_t error, uint8_t *out, size_t room) {
+size_t theirs_encode(const Raster &r, uint32_t version, uint32_t error, uint8_t *out, size_t room) {
     unsigned int size = 0;
-    if (lerc_encodeForVersion(r.values.data(), 4, r.kind, int(r.depth), int(r.cols), int(r.rows), 1, r.is_masked ? 1 : 0,
+    if (lerc_encodeForVersion(r.values.data(), int(version), r.kind, int(r.depth), int(r.cols), int(r.rows), 1, r.is_masked ? 1 : 0,
                               r.is_masked ? r.valid.data() : nullptr, error, out, unsigned(room), &size) != 0)
         fail("lerc_encodeForVersion fails");
     return size;
@@ -103,12 +104,36 @@ struct Times {
     double encode = 1e9, decode = 1e9;
 };
 
+// How many times as fast Futskheri is, over several sets: sums of logarithms, for a geometric mean.
+struct Mean {
+    double encode = 0, decode = 0;
+    int sets = 0;
+
+    void add(const Times &mine, const Times &other) {
+        encode += std::log(other.encode / mine.encode);
+        decode += std::log(other.decode / mine.decode);
+        sets++;
+    }
+
+    void add(const Mean &more) {
+        encode += more.encode;
+        decode += more.decode;
+        sets += more.sets;
+    }
+
+    void print(const std::string &name) const {
+        if (sets > 0)
+            std::printf("| mean of %d: %s | | | %.2f | | | %.2f | | | |\n", sets, name.c_str(), std::exp(encode / sets),
+                        std::exp(decode / sets));
+    }
+};
+
 template <class Encode, class Decode>
-void one_round(const std::vector<Raster> &rasters, uint32_t error, Encode encode, Decode decode,
+void one_round(const Set &set, const std::vector<Raster> &rasters, Encode encode, Decode decode,
                std::vector<Raster> &back, Times &best, Blobs &blobs) {
     double start = seconds();
     for (size_t k = 0; k < rasters.size(); k++)
-        blobs.sizes[k] = encode(rasters[k], error, blobs.at(k), blobs.place(k));
+        blobs.sizes[k] = encode(rasters[k], set.version, set.error, blobs.at(k), blobs.place(k));
     best.encode = std::min(best.encode, seconds() - start);
     start = seconds();
     for (size_t k = 0; k < back.size(); k++)
@@ -116,7 +141,7 @@ void one_round(const std::vector<Raster> &rasters, uint32_t error, Encode encode
     best.decode = std::min(best.decode, seconds() - start);
 }
 
-void run(const Set &set, int rounds) {
+void run(const Set &set, int rounds, Mean &mean) {
     const std::vector<Raster> rasters = set.rasters();
     std::vector<Raster> back = rasters;
     Blobs ours(rasters), theirs(rasters);
@@ -125,8 +150,8 @@ void run(const Set &set, int rounds) {
     for (const Raster &r : rasters)
         mb += double(r.values.size()) / 1e6;
     for (int k = 0; k < (mb < 3 ? 5 * rounds : rounds); k++) {
-        one_round(rasters, set.error, ours_encode, ours_decode, back, mine, ours);
-        one_round(rasters, set.error, theirs_encode, theirs_decode, back, other, theirs);
+        one_round(set, rasters, ours_encode, ours_decode, back, mine, ours);
+        one_round(set, rasters, theirs_encode, theirs_decode, back, other, theirs);
     }
     check_blobs(rasters, ours, set.error);
     check_blobs(rasters, theirs, set.error);
@@ -134,6 +159,7 @@ void run(const Set &set, int rounds) {
                 mb / mine.encode, mb / other.encode, other.encode / mine.encode, mb / mine.decode, mb / other.decode,
                 other.decode / mine.decode, ours.total(), theirs.total(), double(ours.total()) / double(theirs.total()));
     std::fflush(stdout);
+    mean.add(mine, other);
 }
 
 } // namespace
@@ -143,8 +169,18 @@ int main(int count, char **words) {
     std::string word = count > 2 ? words[2] : "";
     std::printf("| raster | encode MB/s | Esri's | ratio | decode MB/s | Esri's | ratio | bytes | Esri's | ratio |\n");
     std::printf("|---|---|---|---|---|---|---|---|---|---|\n");
-    for (const Set &set : all_sets())
-        if (set.name.find(word) != std::string::npos)
-            run(set, rounds < 1 ? 1 : rounds);
+    std::vector<std::pair<std::string, Mean>> means;
+    Mean whole;
+    for (const Family &family : all_families()) {
+        Mean mean;
+        for (const Set &set : family.sets)
+            if (set.name.find(word) != std::string::npos)
+                run(set, rounds < 1 ? 1 : rounds, mean);
+        means.emplace_back(family.name, mean);
+        whole.add(mean);
+    }
+    for (const auto &[name, mean] : means)
+        mean.print(name);
+    whole.print("all sets");
     return 0;
 }

@@ -121,7 +121,7 @@ struct Library {
 
     void one_round() {
         double start = seconds();
-        size = ours_encode(raster, 0, blob.data(), blob.size());
+        size = ours_encode(raster, 4, 0, blob.data(), blob.size());
         encode = std::min(encode, (seconds() - start) * 1e3);
         start = seconds();
         ours_decode(blob.data(), size, back);

@@ -10,14 +10,17 @@ programs() {
     echo lerc_cli lerc_main
     echo ascii_grid ascii_grid_main
     echo bundle_pack bundle_pack_main
+    echo bundle_tiles bundle_tiles_main
     echo level_cache level_cache_main
     echo overview_tiles overview_tiles_main
+    echo tile_audit tile_audit_main
 }
 
 # How many of the first words of a program's worked example are paths of files that it makes.
 made_by() {
     case $1 in
     bundle_pack_main | overview_tiles_main) echo 2 ;;
+    bundle_tiles_main) echo 1 ;;
     *) echo 0 ;;
     esac
 }
@@ -35,13 +38,15 @@ is_current() {
 }
 
 # Builds a program where it is missing or older than its sources, which runs it once on its worked example, which may
-# have no input. The files that it makes then stand in a folder of their own, which is thrown away.
+# have no input, and whose first word may be a file of the example. The files that it makes then stand in a folder of
+# their own, which is thrown away.
 build_program() {
     local crate=$1 program=$root/crates/$1/out/$1 input=$root/crates/$1/stdin words at
     if ! is_current "$program"; then
         mapfile -t words <"$root/crates/$crate/args"
         scratch=$(mktemp -d)
         for ((at = 0; at < $(made_by "$crate"); at++)); do words[at]=$scratch/${words[at]}; done
+        if [ -f "$root/crates/$crate/data/${words[0]-}" ]; then words[0]=$root/crates/$crate/data/${words[0]}; fi
         [ -e "$input" ] || input=/dev/null
         need_kit
         build_by "${0##*/}" "$program" "$crate" "$input" rt run -- "${words[@]}"

@@ -51,8 +51,10 @@ commands_of() {
     case $1 in
     lerc_cli) echo 2 encode decode info build put get list check recover sample ;;
     ascii_grid) echo 1 split join ;;
+    bundle_tiles) echo 2 export import ;;
     level_cache) echo 2 put get name ;;
     overview_tiles) echo 3 overview ;;
+    tile_audit) echo 2 audit ;;
     esac
 }
 
@@ -81,17 +83,19 @@ end_with_hint() {
 # ---- Locks
 
 # The bundles that a program with these words works at, into `bundles`. Each command on a bundle recovers it, which
-# writes, so each is among them.
+# writes, so each is among them; an audit reads alone, and waits here for those that write.
 find_bundles() {
     local name=$1
     shift
     bundles=()
     case $name:${2-} in
     lerc_cli:build | lerc_cli:put | lerc_cli:get | lerc_cli:list | lerc_cli:check | lerc_cli:recover) bundles=("$1") ;;
+    bundle_tiles:export | bundle_tiles:import) bundles=("$1") ;;
     level_cache:put) add_bundle_at "$1" "${5-}" "${6-}" ;;
     level_cache:get) add_bundle_at "$1" "${3-}" "${4-}" ;;
     bundle_pack:?*) bundles=("$@") ;;
     overview_tiles:?*) bundles=("$1" "$2") ;;
+    tile_audit:audit) bundles=("$1") ;;
     esac
 }
 
@@ -155,9 +159,10 @@ end_unlocked() {
 takes_long() {
     taking=''
     case $1:${3-} in
-    lerc_cli:build | lerc_cli:put) taking=$3 ;;
+    lerc_cli:build | lerc_cli:put | bundle_tiles:export | bundle_tiles:import) taking=$3 ;;
     bundle_pack:?*) ;;
     overview_tiles:?*) [ "${4-}" = overview ] ;;
+    tile_audit:audit) taking=$3 ;;
     *) return 1 ;;
     esac
 }

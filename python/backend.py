@@ -18,7 +18,7 @@ import zipfile
 
 HERE = os.path.dirname(os.path.abspath(__file__))
 PACKAGE = os.path.join(HERE, "futskheri")
-FILES = ("__init__.py", "_bundle.py", "_codec.py", "_library.py", "py.typed")
+FILES = ("__init__.py", "_audit.py", "_bundle.py", "_codec.py", "_library.py", "_stream.py", "py.typed")
 
 
 def read(*path):

@@ -141,9 +141,11 @@ expect 'a target alone' 1 nothing "$usage" plainly disk
 expect 'nine sources' 1 nothing "$usage" plainly disk bundle_1 bundle_1 bundle_1 bundle_1 bundle_1 bundle_1 bundle_1 bundle_1 bundle_1
 head -c 100 bundle_2 >short
 expect 'a source that is no bundle' 7 nothing 'store: BadBundle at 100 found 100' plainly disk bundle_1 short
+tells_behind 'it is the last that is told of' 'in bundle_1 or short'
 cp bundle_1 odd
 { head -c 8 open_2; bytes 03; tail -c +10 open_2; } >odd.jnl
 expect 'the first such source is told' 7 nothing 'store: BadJournal at 8 found 3' plainly disk bundle_1 odd short
+tells_behind 'and none behind it' 'in bundle_1 or odd'
 head -c 131206 packed_2 >cut
 expect 'a tile that is cut off' 7 nothing 'store: Beyond 127 127 offset 131140 size 72 got 66' plainly disk cut
 leaves 'no target is made' none none
@@ -151,6 +153,7 @@ gives 'a tile that is cut off and does not count' 0 'packed 1 131206' '' plainly
 target_is 'the other tile is packed' bundle_1
 begins_as short none
 expect 'a target that is no bundle' 7 nothing 'store: BadBundle at 100 found 100' plainly disk bundle_1
+tells_behind 'is told alone' 'in disk'
 leaves 'it is as it was' short none
 begins_as bundle_1 none
 expect 'a source is refused before a target' 7 nothing 'store: BadBundle at 100 found 100' plainly disk short
@@ -160,14 +163,20 @@ expect 'a source is refused before a target' 7 nothing 'store: BadBundle at 100 
 begins_as none none
 mkdir folder
 expect 'a folder in the place of a source' 5 nothing 'volume failed' plainly disk bundle_1 folder
+tells_behind 'is told' 'in folder: Is a directory (os error 21)'
 expect 'a source without a path' 5 nothing 'volume failed' plainly disk -
 expect 'a source whose path has no bytes' 5 nothing 'volume failed' plainly disk ''
+expect 'one behind a source that is there' 5 nothing 'volume failed' plainly disk bundle_1 ''
+leaves 'no target is made for them' none none
+if [ -e .jnl ] || [ -e bundle_1.jnl ]; then holds=no; else holds=yes; fi
+count 'and no journal of a source' "$holds"
 expect 'a target whose path has no bytes' 5 nothing 'volume failed' plainly '' bundle_1
 if [ -e .jnl ]; then holds=no; else holds=yes; fi
 count 'and no journal is made for it' "$holds"
 expect 'a path that is no text' 5 nothing 'volume failed' plainly disk "$(printf 'a\377')"
 leaves 'no target is made' none none
 expect 'a folder in the place of the target' 5 nothing 'volume failed' plainly folder bundle_1
+tells_behind 'is told, too' 'in folder: Is a directory (os error 21)'
 expect 'a target without a path' 5 nothing 'volume failed' plainly - bundle_1
 begins_as none none
 : >out

@@ -108,6 +108,7 @@ expect 'check: one tile' 0 check_2 '' plainly disk check
 expect 'get: one tile' 0 steps_grid '' plainly disk get 127 127
 expect 'get raw: one tile' 0 steps '' plainly disk get 127 127 raw
 expect 'get: another slot' 7 nothing 'store: NoTile 0 0' plainly disk get 0 0
+tells_behind 'get: another slot of a bundle whose path is told' 'in disk'
 expect 'list: with a closed input' 0 list_2 '' input_closed disk list
 expect 'list: a second word is no command' 1 nothing "$usage" plainly disk list x
 leaves 'asking leaves a store as it was' bundle_2 journal_2
@@ -155,6 +156,7 @@ no_bundle() {
         begins_as "$1" "$2"
         # shellcheck disable=SC2086
         expect "$words: $1" 7 nothing "store: $3" plainly disk $words
+        tells_behind "$words: $1, whose path is told" 'in disk'
     done
     leaves "$1 is left as it was" "$1" "$2"
 }
@@ -231,15 +233,19 @@ for words in recover list check 'get 0 0' 'get 0 0 raw'; do
     # shellcheck disable=SC2086
     {
         expect "$words: no bundle's path" 5 nothing "$no_volume" plainly - $words
+        tells_behind "$words: no bundle's path, and no file is named" ''
         expect "$words: a path of no bytes" 5 nothing "$no_volume" plainly '' $words
         expect "$words: a path that is no UTF-8" 5 nothing "$no_volume" plainly "$bad_text" $words
         expect "$words: a file in a folder's place" 5 nothing "$no_volume" plainly blob/disk $words
+        tells_behind "$words: a file in a folder's place is told" 'in blob/disk.jnl: Not a directory (os error 20)'
         rm -rf disk disk.jnl
         mkdir disk
         expect "$words: a folder in the bundle's place" 5 nothing "$no_volume" plainly disk $words
+        tells_behind "$words: a folder in the bundle's place is told" 'in disk: Is a directory (os error 21)'
         rm -rf disk
         mkdir disk.jnl
         expect "$words: a folder in the journal's place" 5 nothing "$no_volume" plainly disk $words
+        tells_behind "$words: a folder in the journal's place is told" 'in disk.jnl: Is a directory (os error 21)'
         rmdir disk.jnl
         ln -s /proc/version disk
         expect "$words: a bundle that cannot be written" 5 nothing "$no_volume" plainly disk $words

@@ -11,6 +11,7 @@ begin
 
 # Those that have none, and why they are there: docs/DECISIONS.md, 'Who calls what'.
 cat >alone <<'NAMES'
+bundle_tiles next_raw
 delta_mode deltas_of
 delta_mode undelta
 delta_mode unplain
@@ -24,6 +25,7 @@ micro_block read_block
 micro_block read_values
 micro_block write_block
 micro_block write_distances
+tiles_cli read_slots
 NAMES
 
 # The words of a crate's sources, each once: those of no comment.

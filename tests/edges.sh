@@ -1,4 +1,4 @@
-# Bundles that may only be read, files longer than 4 GiB, and which names are synced.
+# Bundles that may only be read, a disk that is full, files longer than 4 GiB, and which names are synced.
 
 # ---- A bundle that may only be read
 
@@ -49,6 +49,7 @@ if [ -n "$reader" ]; then
         expect "get raw: may only be read, $journal" 0 steps '' "$reader" disk get 127 127 raw
         expect "recover: may only be read, $journal" 0 closed '' "$reader" disk recover
         expect "put: may only be read, $journal" 5 nothing "$no_volume" "$reader" disk put 3 0 1 <one_tile
+        tells_behind "put: may only be read, $journal, which is told" 'in disk: Permission denied (os error 13)'
         expect "build: may only be read, $journal" 7 nothing 'store: NotEmpty 131282' "$reader" disk build 3 0 1 <one_tile
         still_has "a store that may only be read is as it was, $journal" bundle_2 "$journal"
     done
@@ -57,12 +58,14 @@ if [ -n "$reader" ]; then
         may_be_read nothing none
         chmod 777 "$shared"
         expect "$words: an empty bundle that may only be read" 5 nothing "$no_volume" "$reader" disk "$words" 3 0 1 <one_tile
+        tells_behind "$words: an empty bundle that may only be read is told" 'in disk: Permission denied (os error 13)'
         still_has "$words: an empty bundle that may only be read, and no journal is made" nothing none
     done
     may_be_read bundle_2 journal_2
     [ "$reader" = as_itself ] || chown 65534 "$shared/disk"
     chmod 644 "$shared/disk"
     expect 'put: a journal that may only be read' 5 nothing "$no_volume" "$reader" disk put 3 0 1 <one_tile
+    tells_behind 'put: a journal that may only be read is told' 'in disk.jnl: Permission denied (os error 13)'
     still_has 'put: a journal that may only be read, and the store is as it was' bundle_2 journal_2
     # An open journal cannot be recovered from there.
     may_be_read torn open_2
@@ -70,6 +73,23 @@ if [ -n "$reader" ]; then
     still_has 'list: may only be read, and the journal is open, and it is as it was' torn open_2
 fi
 chmod 755 "$shared"
+
+# ---- A disk that is full
+
+# A disk of forty pages, which nobody else sees, has room for an empty bundle, and not for a tile of a lossless picture of
+# 64 KB.
+if unshare -m sh -c "mount -t tmpfs -o size=160k none '$shared'" 2>/dev/null; then
+    mkdir full
+    on_a_full_disk() { unshare -m sh -c 'mount -t tmpfs -o size=160k none full && exec "$@"' sh "$built" "$@" >out 2>err; }
+    { printf 'LGR1'; numbers 1 1; numbers 4 256 256 1; ones 65536; noise 3 65536; } >noisy_grid
+    tile 0 0 noisy_grid >noisy_tile
+    for words in put build; do
+        expect "$words: a disk that is full" 5 nothing "$no_volume" on_a_full_disk full/disk "$words" 3 0 1 <noisy_tile
+        tells_behind "$words: a disk that is full is told" 'in full/disk: No space left on device (os error 28)'
+    done
+else
+    echo 'skipped: a disk that is full, since nothing may be mounted here'
+fi
 
 # ---- No number can be held
 

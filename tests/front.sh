@@ -36,7 +36,7 @@ echo given
 exit "$(cat "$room/status")"
 END_OF_PROGRAM
 chmod +x stand_in
-for name in lerc_cli ascii_grid bundle_pack level_cache overview_tiles; do
+for name in lerc_cli ascii_grid bundle_pack bundle_tiles level_cache overview_tiles tile_audit; do
     crate=${name}_main
     [ "$name" != lerc_cli ] || crate=lerc_main
     mkdir -p copy/crates/"$crate"/src copy/crates/"$crate"/specs copy/crates/"$crate"/proofs copy/crates/"$crate"/out
@@ -273,8 +273,11 @@ holds 'completion: raw behind a slot' offers raw lerc_cli tiles get 0 1 ''
 holds 'completion: a type' offers 'i8 i16 i32' ascii_grid split i
 holds 'completion: a command of a level' offers 'put get name' level_cache level ''
 holds 'completion: the quarter of an overview' offers '0 1 2 3' overview_tiles from to overview ''
+holds 'completion: the commands over streams' offers 'export import' bundle_tiles tiles ''
+holds 'completion: which tiles' offers listed bundle_tiles tiles export ''
+holds 'completion: the options of an audit' offers 'all strict' tile_audit bundle audit 4 ''
 holds 'completion: sources are paths' offers bin bundle_pack target source b
-holds 'completion: each program has one' sh -c '[ "$(bash -c ". \"\$1\" && complete -p" bash "$1/bin/templates/completion.bash" | wc -l)" -eq 5 ]' sh "$here"
+holds 'completion: each program has one' sh -c '[ "$(bash -c ". \"\$1\" && complete -p" bash "$1/bin/templates/completion.bash" | wc -l)" -eq 7 ]' sh "$here"
 
 # ---- A terminal
 

@@ -71,7 +71,7 @@ holds "the program is there" sh -c '"$1/bin/lerc_cli" - encode 4 0 <"$2/docs/hil
 
 # What stands in front of the programs (tests/front.sh has more, over stand-ins).
 kit=$("$here/bin/install" --version | sed 's/^[^,]*, //')
-for called in lerc_cli ascii_grid bundle_pack level_cache overview_tiles; do
+for called in lerc_cli ascii_grid bundle_pack bundle_tiles level_cache overview_tiles tile_audit; do
     for word in --help -h; do
         holds "$called $word shows its manual page" sh -c '"$1" "$2" | grep -qi "$3"' sh "$prefix/bin/$called" "$word" "$called"
     done

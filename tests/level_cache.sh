@@ -80,11 +80,13 @@ expect 'a full output' 4 nothing 'output failed' output_full level put 3 0 1 1 <
 expect 'what was put then stands' 0 "$blob" '' plainly level get 1 1 raw
 head -c 100 /dev/zero >level/R0000C0080.bundle
 expect 'a file that is no bundle' 7 nothing 'store: BadBundle at 100 found 100' plainly level get 0 128 raw
+tells_behind 'is told by its path' 'in level/R0000C0080.bundle'
 
 # ---- Folders
 
 expect 'a folder that is not there has no tile' 7 nothing 'store: NoTile 0 0' plainly nowhere get 0 0 raw
 expect 'and none is made' 5 nothing 'volume failed' plainly nowhere put 3 0 0 0 <"$grid"
+tells_behind 'which is told' 'in nowhere/R0000C0000.bundle.jnl: No such file or directory (os error 2)'
 expect 'a folder whose name is no UTF-8' 8 nothing 'shelf failed' plainly "$(printf 'a\377')" get 0 0 raw
 expect 'a put into a folder without a name' 8 nothing 'shelf failed' plainly '' put 3 0 0 0 <"$grid"
 expect 'a get from a folder without a name' 8 nothing 'shelf failed' plainly '' get 0 0 raw

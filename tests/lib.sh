@@ -11,9 +11,10 @@
 #
 #     expect NAME STATUS OUTPUT LINE HOW WORD..  <INPUT
 #
-# OUTPUT is the file that standard output has to be like, LINE the one line of standard error (empty:
-# none), and HOW one of the functions of 'Ways to run it'. `leaves` is a case, too: that the two files of
-# the store are then like these.
+# OUTPUT is the file that standard output has to be like, LINE the line of standard error (empty: none), and
+# HOW one of the functions of 'Ways to run it'. Behind the line of a volume that failed and of a store that
+# refuses one more may stand, which begins with 'in '; `tells_behind` is the case that says which. `leaves` is
+# a case, too: that the two files of the store are then like these.
 
 # ---- From the beginning to the end
 
@@ -81,12 +82,26 @@ expect() {
     "$how" "$@"
     got=$?
     if [ -n "$line" ]; then printf '%s\n' "$line" >line; else : >line; fi
-    if [ "$got" -eq "$status" ] && cmp -s out "$output" && cmp -s err line; then
+    case $line in
+    'volume failed' | 'store: '*) sed '2{/^in /d;}' err >err_lines ;;
+    *) cat err >err_lines ;;
+    esac
+    if [ "$got" -eq "$status" ] && cmp -s out "$output" && cmp -s err_lines line; then
         count "$name" yes
     else
         count "$name" no
         echo "    status $got, wanted $status" >&2
         show 'standard output' out
+        show 'standard error' err
+    fi
+}
+
+# Behind the line of the case before stands this one (empty: none).
+tells_behind() {
+    if [ "$(sed 1d err)" = "$2" ]; then
+        count "$1" yes
+    else
+        count "$1" no
         show 'standard error' err
     fi
 }

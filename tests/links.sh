@@ -4,11 +4,12 @@
 # Whether no file `$1` is there, nor a link of that name.
 is_gone() { [ ! -e "$1" ] && [ ! -L "$1" ]; }
 
-# What each command answers while the link leads to no file, and that it leaves no journal beside it.
+# What each command answers while the link `$2` leads to no file.
 refuses_link() {
     for words in list check recover 'get 127 127' 'get 127 127 raw'; do
         # shellcheck disable=SC2086
         expect "$words: $1" 5 nothing "$no_volume" plainly far_store $words
+        tells_behind "$words: $1, which is told" "in $2: it is a link that leads to no file"
     done
     for words in put build; do
         expect "$words: $1" 5 nothing "$no_volume" plainly far_store "$words" 3 0 1 <one_tile
@@ -21,7 +22,7 @@ mkdir shelf_here
 cp bundle_2 shelf_here/disk
 ln -s shelf_here/disk far_store
 mv shelf_here shelf_away
-refuses_link 'the disk of the bundle is away'
+refuses_link 'the disk of the bundle is away' far_store
 if is_gone far_store.jnl && is_gone shelf_here; then holds=yes; else holds=no; fi
 count 'the disk of the bundle is away: nothing is made' "$holds"
 mv shelf_away shelf_here
@@ -30,7 +31,7 @@ if cmp -s shelf_here/disk bundle_2; then holds=yes; else holds=no; fi
 count 'the disk of the bundle is there again: it is as it was' "$holds"
 # The folder is there, and the file is not.
 rm -f shelf_here/disk far_store.jnl
-refuses_link 'the link leads to no file'
+refuses_link 'the link leads to no file' far_store
 if is_gone far_store.jnl && is_gone shelf_here/disk; then holds=yes; else holds=no; fi
 count 'the link leads to no file: nothing is made' "$holds"
 rm -rf shelf_here far_store far_store.jnl
@@ -39,7 +40,7 @@ rm -rf shelf_here far_store far_store.jnl
 
 cp bundle_2 far_store
 ln -s shelf_here/jnl far_store.jnl
-refuses_link 'the disk of the journal is away'
+refuses_link 'the disk of the journal is away' far_store.jnl
 if cmp -s far_store bundle_2 && is_gone shelf_here; then holds=yes; else holds=no; fi
 count 'the disk of the journal is away: the bundle is as it was' "$holds"
 rm -f far_store far_store.jnl
@@ -52,12 +53,12 @@ if unshare -m true 2>/dev/null; then
     ln -s mounted/disk far_store
     # Runs the program while the disk is mounted; nobody else sees that.
     while_mounted() { unshare -m sh -c 'mount --bind shelf_there mounted && exec "$@"' sh "$program" "$@" >out 2>err; }
-    refuses_link 'a disk that is not mounted'
+    refuses_link 'a disk that is not mounted' far_store
     expect 'list: the disk is mounted' 0 list_2 '' while_mounted far_store list
     expect 'put: the disk is mounted' 0 put_1 '' while_mounted far_store put 3 0 1 <one_tile
     if cmp -s far_store.jnl journal_3; then holds=yes; else holds=no; fi
     count 'put: the disk is mounted: the journal is closed' "$holds"
-    refuses_link 'a disk that is not mounted again'
+    refuses_link 'a disk that is not mounted again' far_store
     if [ -z "$(ls mounted)" ]; then holds=yes; else holds=no; fi
     count 'a disk that is not mounted: nothing is made in its place' "$holds"
     rm -rf mounted shelf_there far_store far_store.jnl

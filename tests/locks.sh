@@ -11,7 +11,7 @@ if ! command -v flock >/dev/null 2>&1; then
 fi
 bin=$(cd "${1:-$here/bin}" && pwd) || exit 1
 # Built once, so that no two runs build it: each says with no words how it is called.
-for name in lerc_cli bundle_pack level_cache overview_tiles; do "$bin/$name" >/dev/null 2>&1; done
+for name in lerc_cli bundle_pack bundle_tiles level_cache overview_tiles; do "$bin/$name" >/dev/null 2>&1; done
 begin
 FUTSKHERI_LOCK=1
 export FUTSKHERI_LOCK

@@ -51,6 +51,10 @@ for page in "$here"/man/*.1; do
     count "$name --version tells both" "$([ $? -eq 0 ] && echo yes || echo no)"
 done
 
+# ---- CHANGELOG
+
+count 'CHANGELOG begins with the version' "$([ "$(sed -n 's/^## //p' "$here/CHANGELOG.md" | head -n 1)" = "$(cat "$here/VERSION")" ] && echo yes || echo no)"
+
 # ---- docs/GUIDE.md
 
 # Its commands that are followed by what they give: each pair of blocks between which stands 'gives', or 'gives these

@@ -239,11 +239,13 @@ rm -f from.jnl
 refused 'a first bundle that is none' 7 'store: BadBundle at 100 found 100' overview 0 3 0 1
 begins_as hundred none
 expect 'both are none: the first is told' 7 nothing 'store: BadBundle at 100 found 100' plainly from disk overview 0 3 0 1
+tells_behind 'by its path' 'in from'
 cp with_seven from
 { head -c 8 open_8; bytes 03; tail -c +10 open_8; } >from.jnl
 refused 'a first bundle beside a bad journal' 7 'store: BadJournal at 8 found 3' overview 0 3 0 1
 from_is stream
 expect 'a second bundle that is none' 7 nothing 'store: BadBundle at 100 found 100' plainly from hundred overview 0 3 0 1
+tells_behind 'is told by its path' 'in hundred'
 if [ "$(wc -c <hundred)" -eq 100 ]; then count 'it is as it was' yes; else count 'it is as it was' no; fi
 
 # Tiles that are no blobs, that are cut, and that are unlike: the first coarse tile with a refusal decides, and in it the

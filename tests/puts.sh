@@ -121,9 +121,11 @@ failures_of() {
     if [ -e .jnl ]; then holds=no; else holds=yes; fi
     count "$1: a path of no bytes, and no journal is made" "$holds"
     expect "$1: a folder that is not there" 5 nothing "$no_volume" plainly nowhere/disk "$1" 3 0 1 <one_tile
+    tells_behind "$1: a folder that is not there is told" 'in nowhere/disk.jnl: No such file or directory (os error 2)'
     rm -rf disk disk.jnl
     mkdir disk
     expect "$1: a folder in the bundle's place" 5 nothing "$no_volume" plainly disk "$1" 3 0 1 <one_tile
+    tells_behind "$1: a folder in the bundle's place is told" 'in disk: Is a directory (os error 21)'
     rm -rf disk
     mkdir disk.jnl
     expect "$1: a folder in the journal's place" 5 nothing "$no_volume" plainly disk "$1" 3 0 1 <one_tile

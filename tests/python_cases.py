@@ -5,6 +5,7 @@ import ctypes
 import ctypes.util
 import errno
 import importlib.util
+import io
 import multiprocessing
 import os
 import pickle
@@ -17,6 +18,8 @@ import threading
 import time
 from unittest import mock
 
+import audit_cases as made
+import audit_reading as reading
 import numpy
 import pip_cases
 
@@ -246,6 +249,30 @@ def bundle_as_mapping(room):
     case("a missing file is an OSError", raises(FileNotFoundError, lambda: futskheri.Bundle(path + " is not there")))
 
 
+def audits(room):
+    """Audits, beside the reading of the formats in audit_reading.py."""
+    blob = futskheri.encode(*hills("int16", 16, 16, 1, 5))
+    bands = futskheri.encode_bands([hills("uint8", 4, 4, 1, 6)[0]] * 2)
+    cut = made.changed(blob, 30, len(blob) - 1)
+    tiles = {0: blob, 1: bands, 5: made.FLOATS, 7: b"no blob", 9: blob[:-1], 12: cut, 15: made.turned(blob, 300), 130: made.turned(made.FLOATS, 300)}
+    tiles[140] = made.changed(blob, 6, 5)
+    data = made.bundle_of(tiles)
+    for name, given in (("an audit", data), ("one of a bundle that is cut", data[:-20]), ("one beside a bad record", made.turned(data, 8 * 131136))):
+        with futskheri.Bundle(written(os.path.join(room, "audited"), given)) as bundle:
+            wanted = [reading.line(reading.tell(given, entry, ())) for entry in reading.audited(given)]
+            case(name + " is that of the reading", list(map(audit_line, bundle.audit())) == wanted)
+    with futskheri.Bundle(written(os.path.join(room, "audited"), data)) as bundle, mock.patch("os.pread", side_effect=OSError(errno.EIO, "a bad sector")):
+        case("an audit goes on past bad sectors", [told[4:7] for told in bundle.audit()] == [(None, "damaged", "Failed")] * len(tiles))
+
+
+def audit_line(told):
+    """The line of the program tile_audit."""
+    total = None if told.sum is None else told.sum.to_bytes(4, "little").hex()
+    kind = None if told.dtype is None else f"{told.dtype.kind}{8 * told.dtype.itemsize}"
+    fields = [*told[:4], total, *told[5:8], kind, *told[9:]]
+    return "\t".join("-" if field is None else str(field) for field in fields) + "\n"
+
+
 def read_at_once(bundle):
     """Whether each of four threads reads the tiles that there are."""
     found = []
@@ -359,6 +386,21 @@ def masked_arrays():
     back, valid = futskheri.decode(futskheri.encode(masked))
     again = numpy.ma.array(back, mask=~valid)
     case("and it comes back as one", (again.mask == masked.mask).all() and (again == masked).all())
+
+
+def streams():
+    """Tiles as bin/bundle_tiles takes and gives them; the bytes are those of docs/FORMATS.md."""
+    stream = io.BytesIO()
+    futskheri.write_tile(stream, 1, 2, b"hello")
+    futskheri.write_tile(stream, 127, 0, bytearray(b"x"))
+    whole = b"R\x01\x02\x05\x00\x00\x00hello" + b"R\x7f\x00\x01\x00\x00\x00x"
+    case("a stream of tiles is written as its format has it", stream.getvalue() == whole)
+    tiles = [((1, 2), b"hello"), ((127, 0), b"x")]
+    case("and read", list(futskheri.read_tiles(io.BytesIO(whole))) == tiles)
+    wrong = [(128, 0, b"x"), (0, 128, b"x"), (-1, 0, b"x"), (0, 0, b""), (0, 0, bytes(16777216))]
+    case("a slot or a size that no bundle has is refused", all(raises(ValueError, lambda t=t: futskheri.write_tile(io.BytesIO(), *t)) for t in wrong))
+    cut = [n for n in range(1, len(whole)) if n != 12]
+    case("a stream that is cut is refused", all(raises(ValueError, lambda n=n: list(futskheri.read_tiles(io.BytesIO(whole[:n])))) for n in cut))
 
 
 def pickles():
@@ -530,6 +572,7 @@ def main():
     masked_arrays()
     tiles_of_bands()
     pickles()
+    streams()
     case("the version is the repository's", futskheri.__version__ == open(os.path.join(HERE, "VERSION")).read().strip())
     trips = list(bands_trip())
     case(f"{len(trips)} lists of bands of all types come back", all(trips))
@@ -543,6 +586,7 @@ def main():
         esris(library)
     with tempfile.TemporaryDirectory() as room:
         bundle_as_mapping(room)
+        audits(room)
         guide(room)
         bundles(room)
         guide_with_program(room)

@@ -34,10 +34,15 @@ _futskheri() {
     lerc_cli:3:encode | lerc_cli:3:build | lerc_cli:3:put | level_cache:3:put) _futskheri_words 3 4 ;;
     lerc_cli:5:get | level_cache:5:get) _futskheri_words raw ;;
     level_cache:2:*) _futskheri_words put get name ;;
+    bundle_tiles:2:*) _futskheri_words export import ;;
+    bundle_tiles:3:export) _futskheri_words listed ;;
     overview_tiles:3:*) _futskheri_words overview ;;
     overview_tiles:4:*) _futskheri_words 0 1 2 3 ;;
     overview_tiles:5:*) _futskheri_words 3 4 ;;
-    level_cache:1:* | overview_tiles:1:* | bundle_pack:1:*)
+    tile_audit:2:*) _futskheri_words audit ;;
+    tile_audit:4:audit) _futskheri_words all strict ;;
+    tile_audit:5:audit) _futskheri_words strict ;;
+    level_cache:1:* | overview_tiles:1:* | tile_audit:1:* | bundle_pack:1:* | bundle_tiles:1:*)
         _futskheri_files
         _futskheri_more --help --version
         ;;
@@ -45,4 +50,4 @@ _futskheri() {
     esac
 }
 
-complete -F _futskheri lerc_cli ascii_grid bundle_pack level_cache overview_tiles
+complete -F _futskheri lerc_cli ascii_grid bundle_pack bundle_tiles level_cache overview_tiles tile_audit

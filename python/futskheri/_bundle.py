@@ -8,6 +8,7 @@ from typing import Any, Iterator, List, Mapping, Tuple, Union
 
 import numpy
 
+from ._audit import Audited, checksum, judge
 from ._library import Refused
 
 Place = Tuple[int, int]
@@ -124,6 +125,31 @@ class Bundle(Mapping[Place, bytes]):
 
     def __len__(self) -> int:
         return int(numpy.count_nonzero(self._sizes))
+
+    def audit(self) -> Iterator[Audited]:
+        """What is found of each tile, by rows: it is read and decoded, and the record in front of it looked at.
+
+        A tile that cannot be read is told as 'damaged', 'Failed', and the audit goes on. It is what the program
+        `tile_audit` tells, without its workers and its proofs. Raises MemoryError where there is no memory.
+        """
+        for row, column in self.slots():
+            slot = 128 * row + column
+            offset, size = int(self._offsets[slot]), int(self._sizes[slot])
+            yield Audited(row, column, offset, size, *self._found(offset, size))
+
+    def _found(self, offset: int, size: int) -> Tuple[Any, ...]:
+        """The checksum of a tile's bytes, the verdict, and what is told of that."""
+        try:
+            before, tile = self._read(max(offset - 4, 0), min(offset, 4)), self._read(offset, size)
+        except OSError:
+            return (None, "damaged", "Failed")
+        if len(tile) < size:
+            return (None, "damaged", "Beyond", len(tile))
+        judged = judge(tile)
+        is_bad = offset < self._END + 4 or int.from_bytes(before, "little") != size
+        if is_bad and judged[0] != "damaged":
+            judged = ("damaged", "BadRecord")
+        return (checksum(tile[14:]), *judged)
 
     def __repr__(self) -> str:
         return f"<Bundle {self._file.name!r}, {len(self)} tiles>"

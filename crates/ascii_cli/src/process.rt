@@ -3,6 +3,7 @@
 ghost use Rattle.std.specs.Prelude.{◌≡◌, ◌⊎◌, ℕ, List, Some, drop};
 ghost use Rattle.std.specs.Process.{exit_status};
 ghost use Rattle.outside_io.specs.program.Line.{GivesLine};
+ghost use Rattle.outside_io.specs.streams.Faults.{IsCause};
 ghost use Rattle.program_ends.specs.Moves.{sink_move, source_move};
 ghost use Rattle.program_ends.specs.declared.stop.Stop.{Stop};
 ghost use Rattle.ascii_cli.specs.Names.{line_of};
@@ -25,6 +26,22 @@ pub fn serve<A: Arguments, S: Source, K: Sink, E: Sink>(
     out: &mut K,
     err: &mut E,
 ) -> ExitCode
+    // An object that fails gives its status, and nothing else gives it.
+    ensures source_failed { IsCause (exit_status result ≡ 3) (S.faults src.old) (S.faults src.new) }
+    ensures output_failed { IsCause (exit_status result ≡ 4) (K.faults out.old) (K.faults out.new) }
+
+    // And whatever the arguments tell, a run is one of some words, unless these were not read.
+    ensures some_run { (exit_status result ≡ 1)
+        ⊎ (IsUnread (exit_status result) (source_move S.left S.faults src.old src.new)
+        (sink_move K.held K.faults out.old out.new)
+        (sink_move E.held E.faults err.old err.new)
+        ⊎ ((words : List (List ℕ)) × ((c : Command) × (IsSpelled c words
+        × OfRun c (exit_status result)
+        (source_move S.left S.faults src.old src.new)
+        (sink_move K.held K.faults out.old out.new)
+        (sink_move E.held E.faults err.old err.new))))) }
+
+    // The rest where the texts are told.
     ensures usage { (texts : List (List ℕ)) → A.texts args.now ≡ Some texts
         → IsNoCommand (drop 1 texts) → (exit_status result ≡ 1)
         ⊎ IsUnread (exit_status result) (source_move S.left S.faults src.old src.new)

@@ -1,4 +1,4 @@
 mod Fields
-mod HeaderFields
+pub mod HeaderFields
 pub mod Headers
 pub mod Numbers

@@ -1,7 +1,9 @@
+pub mod Chains
+pub mod Kept
 pub mod Marked
 pub mod Raised
 mod Ended
-mod Fitting
+pub mod Fitting
 mod Lined
 mod Stepping
 mod Listed

@@ -4,12 +4,8 @@ use Rattle.std.proofs.lemmas.Bool.{cases_lt}
 use Rattle.std.proofs.lemmas.Bool.Decides.{nat_tests}
 use Rattle.std.proofs.lemmas.List.{append-nil, length-replicate, places}
 use Rattle.std.proofs.lemmas.List.Sums.{sum_by-append, sum_by-cons}
-use Rattle.outside_io.specs.volume.History.{History, During}
 use Rattle.bundle_store.specs.declared.tile_rec.TileRec.{TileRec}
-use Rattle.bundle_store.specs.Images.{EachImage}
-use Rattle.bundle_store.specs.Tiles.{TileMap}
-use Rattle.bundle_store.proofs.Standing.{weaker}
-use Rattle.bundle_lines.specs.Puts.{AreGroups, AreMarks, AreWhole, InRuns, IsAfterSome, IsNextGroup, PutsKeep, marked}
+use Rattle.bundle_lines.specs.Puts.{AreGroups, AreMarks, AreWhole, InRuns, IsNextGroup, marked}
 
 marked_end : (marks : List ℕ) (mark t : ℕ) → marked (marks ++ mark ∷ []) t ≡ marked marks t + cond (nat_le mark t) 1 0
 marked_end marks mark t = sum_by-append (λ m. cond (nat_le m t) 1 0) marks (mark ∷ []) ∙ (let e : marked marks t + (0 + cond (nat_le mark t) 1 0) ≡ marked marks t + cond (nat_le mark t) 1 0 = omega arith in e)
@@ -117,17 +113,3 @@ whole_more b us marks n mark some next whole =
     let from : length marks ≡ 0 + length marks = omega arith in
     let more = groups_more b us whole.sizes 0 marks n mark whole.groups whole.runs some (subst (λ (i : ℕ). IsNextGroup b us i n) from next) in
     record { sizes = whole.sizes ++ n ∷ []; groups = more.0; runs = more.1 }
-
--- calls that leave each image as what stood at the start, and then puts
-pub puts_join : (b : List ℕ) (start : TileMap) (us : List TileRec) (marks : List ℕ) (old mid new : History) → AreMarks marks mid.moment new.moment
-    → During (EachImage (λ map. map ≡ start)) old mid → PutsKeep b start us marks mid new → PutsKeep b start us marks old new
-puts_join b start us marks old mid new are during kept = record {
-  later = omega (arith, during.later, kept.later);
-  past = λ t le. kept.past t (omega (arith, le, during.later)) ∙ during.past t le;
-  each = λ t ge le. elim (cases_lt t mid.moment) [
-    | inl before ↦ (let none : marked marks t ≡ 0 = marked_none marks mid.moment t (λ i less. (are.within i less).0) before in
-        subst (EachImage (IsAfterSome b start us marks t)) (sym (kept.past t (omega (arith, before))))
-        (weaker (λ map. map ≡ start) (IsAfterSome b start us marks t) (mid.disk_at t) (λ map same. record { count = 0; count_is = inl (sym none); map_is = same }) (during.each t ge (omega (arith, before)))))
-    | inr after ↦ kept.each t after le
-  ];
-}

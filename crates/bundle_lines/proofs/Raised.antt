@@ -25,7 +25,6 @@ use Rattle.bundle_lines.specs.declared.stop.BuildStop.TheVariants.{Output, Volum
 use Rattle.bundle_lines.specs.Builds.{BuildEnd, BuildGave, BuildKeeps, BuildMarks, BuildReads, IsAllOrNone, KeepsSomeLength, OnBuildAnswer}
 use Rattle.bundle_lines.specs.Puts.{AreMarks, marked}
 use Rattle.bundle_lines.specs.inside.Raising.{IsRaised, Raises, build_stop_of}
-use Rattle.bundle_lines.proofs.Marked.{marked_none}
 
 -- ---- marks that are all one moment
 
@@ -123,20 +122,6 @@ keeps_marked us marks old new is raised kept =
             })))
       ];
     }
-
--- calls that leave each image as what stood at the start, and then a build
-pub builds_join : (start : TileMap) (us : List TileRec) (marks : List ℕ) (old mid new : History) → AreMarks marks mid.moment new.moment
-    → During (EachImage (λ map. map ≡ start)) old mid → BuildKeeps start us marks mid new → BuildKeeps start us marks old new
-builds_join start us marks old mid new are during kept = record {
-  later = omega (arith, during.later, kept.later);
-  past = λ t le. kept.past t (omega (arith, le, during.later)) ∙ during.past t le;
-  each = λ t ge le. elim (cases_lt t mid.moment) [
-    | inl before ↦ (let none : marked marks t ≡ 0 = marked_none marks mid.moment t (λ i less. (are.within i less).0) before in
-        subst (EachImage (IsAllOrNone start us marks t)) (sym (kept.past t (omega (arith, before))))
-        (weaker (λ map. map ≡ start) (IsAllOrNone start us marks t) (mid.disk_at t) (λ map same. record { count = 0; least = omega (arith, none); either = inl refl; map_is = same }) (during.each t ge (omega (arith, before)))))
-    | inr after ↦ kept.each t after le
-  ];
-}
 
 -- whatever the store answers, but Device, the session is ready for a put
 pub answers_ready : (fault : StoreFault) (P : Type 0) → UnlessDevice {X = Unit {0}} (Err fault) P → OnBuildAnswer (Err (build_stop_of fault)) P

@@ -2,7 +2,7 @@
 -- crash leaves at each moment.
 use Rattle.std.specs.Prelude.{◌≡◌, ◌⊎◌, ℕ, ◌<◌, ◌≤◌, List, [], length, replicate, take, Option, Result, Ok, Err}
 use Rattle.outside_io.specs.streams.Sink.{Holds, HoldsPrefix}
-use Rattle.outside_io.specs.volume.History.{History, DuringAt}
+use Rattle.outside_io.specs.volume.History.{History, DuringAt, current}
 use Rattle.bundle_index.specs.Sizes.{slot_count}
 use Rattle.bundle_store.specs.declared.tile_rec.TileRec.{TileRec}
 use Rattle.bundle_store.specs.Build.{last_tiles, map_after}
@@ -13,7 +13,7 @@ use Rattle.bundle_store.specs.Tiles.{TileMap}
 use Rattle.bundle_lines.specs.declared.stop.BuildStop.{BuildStop}
 use Rattle.bundle_lines.specs.declared.stop.BuildStop.TheVariants.{Output, Volume, NotEmpty, OutOfMemory}
 use Rattle.bundle_lines.specs.Lines.{built_line}
-use Rattle.bundle_lines.specs.Puts.{marked}
+use Rattle.bundle_lines.specs.Puts.{KeptOr, marked}
 
 abbrev pub BuildEnd : Type 0
 BuildEnd = Result (Unit {0}) BuildStop
@@ -76,3 +76,9 @@ pub record IsAllOrNone (start : TileMap) (updates : List TileRec) (marks : List 
 abbrev pub BuildKeeps : TileMap → List TileRec → List ℕ → History → History → Type 0
 BuildKeeps start updates marks old new =
     DuringAt (λ t d. EachImage (IsAllOrNone start updates marks t) d) old new
+
+-- the same behind a recovery, whatever is pending as that starts: what was read then stands for
+-- this map
+abbrev pub BuildKeepsFrom : TileMap → List TileRec → List ℕ → History → History → Type 0
+BuildKeepsFrom start updates marks old new = DuringAt (λ t d. EachImage (λ map.
+    KeptOr (current old) marks t (IsAllOrNone start updates marks t map) map) d) old new

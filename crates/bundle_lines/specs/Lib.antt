@@ -11,9 +11,12 @@ pub use Rattle.bundle_store.specs.Built
 pub use Rattle.bundle_store.specs.Check
 pub use Rattle.bundle_store.specs.Images
 pub use Rattle.bundle_store.specs.Layout
+pub use Rattle.bundle_store.specs.Recover
 pub use Rattle.bundle_store.specs.Session
+pub use Rattle.bundle_store.specs.Starts
 pub use Rattle.bundle_store.specs.Tiles
 pub mod Builds
+pub mod Chains
 pub mod Gave
 pub mod Lines
 pub mod Puts

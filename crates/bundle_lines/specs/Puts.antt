@@ -4,11 +4,13 @@
 use Rattle.std.specs.Prelude.{◌≡◌, ◌⊎◌, ℕ, ◌+◌, ◌^◌, ◌<◌, ◌≤◌, nat_le, List, [], ◌∷◌, ◌++◌, length, take, replicate, slice_index, Option, Bool, true, IsTrue, IsErrOf, Ok, Err}
 use Rattle.std.specs.List.{count_by}
 use Rattle.outside_io.specs.declared.volume.VolFile.TheVariants.{Bundle}
+use Rattle.outside_io.specs.volume.Disk.{Disk}
 use Rattle.outside_io.specs.volume.History.{History, DuringAt, contents, current}
 use Rattle.bundle_store.specs.declared.tile_rec.TileRec.{TileRec}
 use Rattle.bundle_store.specs.Build.{bytes_at, map_after}
 use Rattle.bundle_store.specs.Images.{EachImage, HoldsClosed}
 use Rattle.bundle_store.specs.Session.{IsReadyToPut, SessionState}
+use Rattle.bundle_store.specs.Starts.{CouldBe}
 use Rattle.bundle_store.specs.Tiles.{IsReadable, TileMap, tiles}
 use Rattle.bundle_lines.specs.declared.stop.PutStop.TheVariants.{Output, Volume, Full}
 use Rattle.bundle_lines.specs.Gave.{PutEnd, PutGave, UnlessVolume}
@@ -109,6 +111,17 @@ pub record IsAfterSome (bundle : List ℕ) (start : TileMap) (updates : List Til
 abbrev pub PutsKeep : List ℕ → TileMap → List TileRec → List ℕ → History → History → Type 0
 PutsKeep bundle start updates marks old new =
     DuringAt (λ t d. EachImage (IsAfterSome bundle start updates marks t) d) old new
+
+-- A map that some image stood for first, as long as no update has a mark; or such a one with
+-- updates done.
+abbrev pub KeptOr : Disk → List ℕ → ℕ → Type 0 → TileMap → Type 0
+KeptOr first marks t Done map = (CouldBe first map × (marked marks t ≡ 0)) ⊎ Done
+
+-- The same of puts behind a recovery, whatever is pending as that starts: what was read then stands
+-- for this map, and the bundle is what the recovery left.
+abbrev pub PutsKeepFrom : List ℕ → TileMap → List TileRec → List ℕ → History → History → Type 0
+PutsKeepFrom bundle start updates marks old new = DuringAt (λ t d. EachImage (λ map.
+    KeptOr (current old) marks t (IsAfterSome bundle start updates marks t map) map) d) old new
 
 -- ---- the end
 

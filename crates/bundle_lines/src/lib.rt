@@ -8,6 +8,7 @@
 
 mod builds;
 mod checking;
+mod laws;
 mod lines;
 mod listing;
 mod puts;
@@ -15,6 +16,7 @@ mod stop;
 
 pub use builds::build_all;
 pub use checking::check_all;
+pub use laws::{bundles_survive_cuts, runs_from_rest_keep_one_map, runs_keep_their_first_updates};
 pub use lines::{give_built, give_recovery, give_report};
 pub use listing::list_all;
 pub use puts::put_all;

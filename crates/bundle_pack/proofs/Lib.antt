@@ -2,6 +2,7 @@ mod Volumes
 mod Opened
 mod Choosing
 mod Recovered
+mod Opening
 mod Telling
 mod Turning
 mod Reading

@@ -1,5 +1,5 @@
 -- What a run leaves, in the words of the tiles that its bundles stand for.
-use Rattle.std.proofs.Common.{◌≡◌, ◌⊎◌, inl, inr, ℕ, ◌≤◌, List, [], length, Some, None, Result, Ok, Err, Bool, refl, sym, ap, subst, ◌∙◌, arith}
+use Rattle.std.proofs.Common.{◌≡◌, ◌⊎◌, inl, inr, ℕ, ◌≤◌, List, [], length, Some, None, Result, Ok, Err, Bool, sym, ap, subst, ◌∙◌, arith}
 use Rattle.std.specs.Prelude.{IfErr, IsTrue}
 use Rattle.outside_io.specs.declared.volume.VolFile.TheVariants.{Bundle, Journal}
 use Rattle.outside_io.specs.streams.Sink.{Holds}
@@ -9,12 +9,15 @@ use Rattle.outside_io.proofs.VolumeLemmas.Images.{only_image}
 use Rattle.outside_io.proofs.VolumeLemmas.Moments.{during_map}
 use Rattle.bundle_index.specs.Sizes.{slot_count}
 use Rattle.bundle_store.specs.declared.fault.StoreFault.TheVariants.{Device, BadBundle, BadJournal, NoTile, Beyond, TileTooLarge, EmptyTile, Full, NotEmpty, OutOfMemory, Stopped}
-use Rattle.bundle_store.specs.Images.{EachImage, StandsFor}
-use Rattle.bundle_store.specs.Recover.{EachBundleMidway, EachStandsForOneOf, IsMidway, StandsForOneOf}
+use Rattle.bundle_store.specs.Images.{EachImage}
+use Rattle.bundle_store.specs.Recover.{EachBundleMidway, EachStandsForOneOf, IsMidway}
+use Rattle.bundle_store.specs.Starts.{CouldBe, EachIsSound, KeepsStart}
 use Rattle.bundle_store.specs.Tiles.{TileMap, no_tiles}
 use Rattle.bundle_store.proofs.Recovering.{tiles_empty}
+use Rattle.bundle_store.proofs.Standing.{weaker}
+use Rattle.bundle_store.proofs.Starting.{keeps_one, keeps_sound, one_could}
 use Rattle.opened_bundle.specs.Files.{Files}
-use Rattle.opened_bundle.specs.Left.{IsReady, IsShut, KeepsStart}
+use Rattle.opened_bundle.specs.Left.{IsReady, IsShut}
 use Rattle.program_ends.specs.Moves.{SinkMove}
 use Rattle.program_ends.specs.declared.stop.Stop.{Stop}
 use Rattle.program_ends.specs.declared.stop.Stop.TheVariants.{Usage, Source as SourceStop, Output, Volume, OutOfMemory as NoMemory, Refused}
@@ -27,7 +30,7 @@ use Rattle.bundle_pack.specs.Opening.{AreOpened, OpensAs}
 use Rattle.bundle_pack.specs.Packing.{EachKeptOr, IsOfSound, OnUnpacked, PackSays, PacksMaps, TargetKeeps, merged_tiles}
 use Rattle.bundle_pack.specs.Recovering.{AtMostRecovers}
 use Rattle.bundle_pack.specs.Run.{EndsAs, EndsWith, KeepsBytes, KeepsOrPacks, PackedAll}
-use Rattle.bundle_pack.specs.Sources.{RecoversAlone}
+use Rattle.bundle_pack.specs.Sources.{Each, EachShut, RecoversAlone}
 use Rattle.bundle_pack.specs.declared.fault.PackFault.{PackFault}
 use Rattle.bundle_pack.specs.declared.fault.PackFault.TheVariants.{Source, Target, KeptTooMuch, OutOfMemory as NoRoom}
 use Rattle.bundle_pack.specs.declared.packing.PackReport.{PackReport}
@@ -35,23 +38,12 @@ use Rattle.bundle_pack.specs.declared.refusal.Refusal.{Refusal}
 use Rattle.bundle_pack.proofs.Ended.{own}
 use Rattle.bundle_pack.proofs.Opened.{one_opened}
 use Rattle.bundle_pack.proofs.Sound.{sound_merged, stands_left}
+use Rattle.bundle_pack.proofs.Volumes.{each_map}
 
 -- ---- at each moment
 
--- nothing is pending: what one of the images stands for is what stood at the start
-start_image : (start : TileMap) (told : Bool) (h : History) (b j : List ℕ) → IsReady told h start → StandsForOneOf (current h) b j → StandsFor b j start
-start_image start told h b j ready one =
-    let bundle : one.bundle ≡ contents Bundle h = only_image (current h).bundle one.bundle ready.quiet.bundle one.bundle_is in
-    let journal : one.journal ≡ contents Journal h = only_image (current h).journal one.journal ready.quiet.journal one.journal_is in
-    one.same start (subst (λ (l : List ℕ). StandsFor l one.journal start) (sym bundle) (subst (λ (l : List ℕ). StandsFor (contents Bundle h) l start) (sym journal) ready.stands))
-
-images_keep : (told : Bool) (old new : History) (start : TileMap) → IsReady told old start → During (EachStandsForOneOf (current old)) old new → KeepsStart start old new
-images_keep told old new start ready during =
-    during_map (EachStandsForOneOf (current old)) (EachImage (λ map. map ≡ start)) old new
-    (λ d each b j ib ij. record { map = start; stands = start_image start told old b j ready (each b j ib ij); passes = refl }) during
-
-pub source_keeps : {V : Type 0} (told : V → Bool) (history : V → History) (old new : V) (start : TileMap) → RecoversAlone told history old new → IsReady (told old) (history old) start → KeepsStart start (history old) (history new)
-source_keeps told history old new start kept ready = images_keep (told old) (history old) (history new) start ready (kept.images ready.tells)
+pub source_keeps : {V : Type 0} (told : V → Bool) (history : V → History) (old new : V) → RecoversAlone told history old new → IsTrue (told old) → EachIsSound (current (history old)) → KeepsStart (history old) (history new)
+source_keeps told history old new kept tells sound = keeps_sound (history old) (history new) sound (kept.images tells)
 
 -- no tiles are put, and none is being built: the bytes are those of the start
 bytes_stay : (old new : History) → IsShut (current old) → During (EachBundleMidway (current old)) old new → KeepsBytes old new
@@ -69,8 +61,8 @@ source_stays told history old new kept tells shut = bytes_stay (history old) (hi
 pub unpacked_stays : (old new : History) → IsShut (current old) → AtMostRecovers old new → KeepsBytes old new
 unpacked_stays old new shut so = bytes_stay old new shut so.bytes
 
-pub unpacked_keeps : (told : Bool) (old new : History) (start : TileMap) → IsReady told old start → AtMostRecovers old new → KeepsStart start old new
-unpacked_keeps told old new start ready so = images_keep told old new start ready so.images
+pub unpacked_keeps : (told : Bool) (old new : History) (start : TileMap) → IsReady told old start → AtMostRecovers old new → KeepsStart old new
+unpacked_keeps told old new start ready so = keeps_sound old new ready.sound so.images
 
 -- a status of memory, or of a refusal, is of a target that was not packed
 pub target_unpacked : (answer : Result PackReport PackFault) (end : End) (status : ℕ) (P : Type 0) → EndsAs answer end → status ≡ status_at end → (status ≡ 6) ⊎ (status ≡ 7) → OnUnpacked answer P → P
@@ -108,14 +100,14 @@ target_unpacked answer end status P so is late on = go answer end so (elim late 
 
 pub target_keeps : (sources : List Files) (told : Bool) (old new : History) (maps : List TileMap) (start : TileMap) → StandFor sources maps → IsReady told old start → TargetKeeps sources (files_in old) old new → KeepsOrPacks maps start old new
 target_keeps sources told old new maps start stand ready (inl kept) =
-    during_map (EachStandsForOneOf (current old)) (EachImage (λ map. (map ≡ start) ⊎ ((start ≡ no_tiles) × (map ≡ merged maps)))) old new
-    (λ d each b j ib ij. record { map = start; stands = start_image start told old b j ready (each b j ib ij); passes = inl refl }) kept
+    during_map (EachStandsForOneOf (current old)) (EachImage (λ map. CouldBe (current old) map ⊎ ((start ≡ no_tiles) × (map ≡ merged maps)))) old new
+    (λ d each. weaker (CouldBe (current old)) (λ map. CouldBe (current old) map ⊎ ((start ≡ no_tiles) × (map ≡ merged maps))) d (λ map could. inl could) (keeps_one (current old) d ready.sound each)) kept
 target_keeps sources told old new maps start stand ready (inr (bundles, (read, (empty, kept)))) =
     let none : start ≡ no_tiles = (stands_left (contents Bundle old) (contents Journal old) start empty.found [] ready.stands empty.leaves).1 ∙ tiles_empty in
     let all : merged_tiles bundles ≡ merged maps = sound_merged sources bundles maps read.taken.opened stand in
-    during_map (EachKeptOr (merged_tiles bundles) (current old)) (EachImage (λ map. (map ≡ start) ⊎ ((start ≡ no_tiles) × (map ≡ merged maps)))) old new
+    during_map (EachKeptOr (merged_tiles bundles) (current old)) (EachImage (λ map. CouldBe (current old) map ⊎ ((start ≡ no_tiles) × (map ≡ merged maps)))) old new
     (λ d each b j ib ij. elim (each b j ib ij) [
-      | inl one ↦ record { map = start; stands = start_image start told old b j ready one; passes = inl refl }
+      | inl one ↦ (let is = one_could (current old) b j ready.sound one in record { map = is.map; stands = is.stands; passes = inl is.passes })
       | inr stands ↦ record { map = merged_tiles bundles; stands = stands; passes = inr (none, all) }
     ]) kept
 
@@ -125,6 +117,15 @@ pub packed_all : (answer : Result PackReport PackFault) (end : End) (status : �
 packed_all (Ok report) end status maps d out err so is zero (holds, (count, size)) with_all =
     (holds, subst (λ (r : PackReport). Holds out.held.old out.held.new (packed_line r)) (λ i. record { tiles = count i; length = size i }) with_all.output)
 packed_all (Err fault) end status maps d out err so is zero packs with_all = absurd (never end so (sym is ∙ zero))
+  where
+    never : (end : End) → EndsAs (Err fault) end → status_at end ≡ 0 → ⊥
+    never end so zero = let here : EndsAs (Err fault) (Ok tt) = subst (EndsAs (Err fault)) (ends.ok_at refusal_status own end zero) so in here
+
+-- and the sources are shut
+pub packed_shut : {V : Type 0} (told : V → Bool) (history : V → History) (answer : Result PackReport PackFault) (end : End) (status : ℕ) (old new : List V) → EndsAs answer end → status ≡ status_at end → status ≡ 0 → EachShut told history answer old new
+    → Each (λ i v w. IsTrue (told v) → IsShut (current (history w))) old new
+packed_shut told history (Ok report) end status old new so is zero shut = each_map _ _ old new (λ i v w less one tells. one tt tells) shut
+packed_shut told history (Err fault) end status old new so is zero shut = absurd (never end so (sym is ∙ zero))
   where
     never : (end : End) → EndsAs (Err fault) end → status_at end ≡ 0 → ⊥
     never end so zero = let here : EndsAs (Err fault) (Ok tt) = subst (EndsAs (Err fault)) (ends.ok_at refusal_status own end zero) so in here

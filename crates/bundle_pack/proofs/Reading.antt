@@ -1,5 +1,5 @@
 -- Sources that are read from are still, and serve what they served.
-use Rattle.std.proofs.Common.{◌≡◌, ◌≢◌, inl, inr, ℕ, List, slice_get, slice_set, Some, Bool, IsTrue, refl, sym, subst, ◌∙◌, arith}
+use Rattle.std.proofs.Common.{◌≡◌, ◌≢◌, inl, inr, ℕ, List, slice_get, slice_set, Some, Result, Bool, IsTrue, refl, sym, subst, ◌∙◌, arith}
 use Rattle.std.specs.Prelude.{All}
 use Rattle.std.proofs.lemmas.Bool.{cases_lt}
 use Rattle.std.proofs.lemmas.List.{length-map}
@@ -7,15 +7,16 @@ use Rattle.std.proofs.lemmas.Option.{slice_get_within}
 use Rattle.outside_io.specs.declared.volume.VolFile.TheVariants.{Bundle, Journal}
 use Rattle.outside_io.specs.streams.Faults.{IsCause}
 use Rattle.outside_io.specs.volume.History.{History, contents, current}
-use Rattle.outside_io.proofs.VolumeLemmas.Moments.{started}
-use Rattle.bundle_store.specs.Recover.{EachBundleMidway, EachStandsForOneOf}
+use Rattle.outside_io.proofs.VolumeLemmas.Moments.{during_end, started}
+use Rattle.bundle_store.specs.Recover.{EachBundleMidway, EachKeptOrOnTheWay, EachStandsForOneOf}
 use Rattle.bundle_store.specs.Session.{Serves, SessionState}
 use Rattle.bundle_pack.specs.Files.{all_bundles}
-use Rattle.opened_bundle.specs.Left.{IsLeft}
-use Rattle.bundle_pack.specs.Sources.{Each, IsServing, RecoversAlone, SourceMoves}
+use Rattle.opened_bundle.specs.Left.{IsLeft, IsShut}
+use Rattle.bundle_pack.specs.Sources.{Each, EachShut, IsServing, RecoversAlone, SourceMoves, WasOpened}
+use Rattle.bundle_pack.specs.declared.fault.PackFault.{PackFault}
 use Rattle.bundle_pack.specs.inside.Collecting.{AreServed, IsStill}
 use Rattle.opened_bundle.proofs.BundleOpening.{still}
-use Rattle.bundle_pack.proofs.Recovered.{bytes_on, bytes_themselves, changes_on, contents_on, images_on, keeps_itself, still_on, unchanged}
+use Rattle.bundle_pack.proofs.Recovered.{bytes_on, bytes_themselves, changes_on, contents_on, files_on, files_themselves, images_on, keeps_itself, still_on, unchanged}
 use Rattle.bundle_pack.proofs.Volumes.{all_of, each_join, each_map, each_same, each_turn, from_map, get_some, same_maps, told_at}
 
 pub images_same : {V : Type 0} (told : V → Bool) (history : V → History) (v : V) → RecoversAlone told history v v
@@ -23,6 +24,7 @@ images_same told history v = record {
   told_same = refl;
   images = λ tells. started (EachStandsForOneOf (current (history v))) (history v) (keeps_itself (current (history v)));
   bytes = λ tells. started (EachBundleMidway (current (history v))) (history v) (bytes_themselves (current (history v)));
+  files = λ tells. started (EachKeptOrOnTheWay (current (history v))) (history v) (files_themselves (current (history v)));
   changes = λ tells. unchanged (history v);
 }
 
@@ -104,6 +106,7 @@ moved_still told history faults before failed v m w never moved rest = record {
     told_same = rest.told_same ∙ moved.kept.told_same;
     images = λ tells. images_on (history v) (history m) (history w) (moved.kept.images tells) (rest.still (later tells));
     bytes = λ tells. bytes_on (history v) (history m) (history w) (moved.kept.bytes tells) (rest.still (later tells));
+    files = λ tells. files_on (history v) (history m) (history w) (moved.kept.files tells) (rest.still (later tells));
     changes = λ tells. changes_on (history v) (history m) (history w) (moved.kept.changes tells) (rest.still (later tells));
   };
   bundle = λ tells _.
@@ -149,3 +152,16 @@ still_all told history faults failed old new never each =
 
 pub still_none : {V : Type 0} (told : V → Bool) (history : V → History) (faults : V → ℕ) (failed : ℕ → Type 0) (vs : List V) → ((i : ℕ) → failed i → ⊥) → Each (λ i v w. IsStill told history faults (failed i) v w) vs vs
 still_none told history faults failed vs never = each_same (λ i v w. IsStill told history faults (failed i) v w) vs (λ i v. still_same told history faults (failed i) v (never i))
+
+-- sources that were opened are shut behind reads, which change nothing
+pub still_shut : {V X Y : Type 0} (told : V → Bool) (history : V → History) (faults : V → ℕ) (before failed : ℕ → Type 0) (old mid new : List V) (r : Result X PackFault) (s : Result Y PackFault)
+    → ((i : ℕ) → WasOpened r i) → Each (λ i v w. SourceMoves told history faults (before i) v w) old mid → EachShut told history r old mid → Each (λ i v w. IsStill told history faults (failed i) v w) mid new
+    → EachShut told history s old new
+still_shut told history faults before failed old mid new r s opened moved shut reads = record {
+  many = reads.many ∙ shut.many;
+  each = λ i v w was is later tells.
+      let m = get_some mid i (omega (arith, shut.many, slice_get_within old i v was)) in
+      let tells_1 = subst (λ b. IsTrue b) (sym (moved.each i v m.0 was m.1).kept.told_same) tells in
+      let end = during_end (λ d. d ≡ current (history m.0)) (history m.0) (history w) ((reads.each i m.0 w m.1 is).still tells_1) in
+      subst IsShut (sym end) (shut.each i v m.0 was m.1 (opened i) tells);
+}

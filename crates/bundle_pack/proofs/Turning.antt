@@ -6,16 +6,17 @@ use Rattle.std.proofs.lemmas.List.{length-map}
 use Rattle.std.proofs.lemmas.Option.{slice_get_within}
 use Rattle.outside_io.specs.declared.volume.VolFile.TheVariants.{Bundle}
 use Rattle.outside_io.specs.streams.Faults.{IsCause}
-use Rattle.outside_io.specs.volume.History.{History, contents}
+use Rattle.outside_io.specs.volume.History.{History, contents, current}
 use Rattle.bundle_store.specs.declared.fault.StoreFault.{StoreFault}
 use Rattle.bundle_store.specs.declared.fault.StoreFault.TheVariants.{Device, BadBundle, BadJournal, NoTile, Beyond, TileTooLarge, EmptyTile, Full, NotEmpty, OutOfMemory, Stopped}
 use Rattle.bundle_store.specs.Causes.{FaultFrom, OnCause}
 use Rattle.bundle_store.specs.Session.{Serves, SessionState}
 use Rattle.opened_bundle.specs.Files.{Files}
+use Rattle.opened_bundle.specs.Left.{IsShut}
 use Rattle.bundle_pack.specs.Files.{all_bundles, all_files, files_in}
 use Rattle.bundle_pack.specs.Opening.{AreOpened, OpensAs, StandsLeft}
 use Rattle.bundle_pack.specs.Refusals.{source_fault_of}
-use Rattle.bundle_pack.specs.Sources.{DeviceAt, Each, IsServing, RecoversAlone, SourceMoves}
+use Rattle.bundle_pack.specs.Sources.{DeviceAt, Each, EachShut, IsServing, OpenedBefore, RecoversAlone, SourceMoves}
 use Rattle.bundle_pack.specs.declared.fault.PackFault.{PackFault}
 use Rattle.bundle_pack.specs.declared.fault.PackFault.TheVariants.{Source, OutOfMemory as NoMemory}
 use Rattle.bundle_pack.specs.inside.Turns.{IsTurn, IsTurned, OpenSays, OpeningSays}
@@ -84,6 +85,32 @@ turns_moved told history faults sessions at old new result end never so =
       bundle = λ tells _. inl ((p.turned (omega (arith, end, less))).1.1.left tells);
       cause = still (DeviceAt result i) (faults v) (faults w) p.count (never i);
     }) so
+
+-- all were opened, so all are shut
+pub turns_shut : {V : Type 0} (told : V → Bool) (history : V → History) (faults : V → ℕ) (sessions : List SessionState) (at : ℕ) (old new : List V)
+    → at ≡ length old → Each (IsTurn told history faults sessions at) old new → Each (λ i v w. Unit {0} → IsTrue (told v) → IsShut (current (history w))) old new
+turns_shut told history faults sessions at old new end so =
+    each_map (IsTurn told history faults sessions at) (λ i v w. Unit {0} → IsTrue (told v) → IsShut (current (history w))) old new
+    (λ i v w less p was tells. (p.turned (omega (arith, end, less))).1.1.shut tells) so
+
+-- the fault of a source says that those before it were opened
+before_it : (at i : ℕ) (fault : StoreFault) → OpenedBefore (source_fault_of at fault) i → i < at
+before_it at i fault = by_source at (λ f told. OpenedBefore told i → i < at) (λ was. absurd was) (λ f was. was) fault
+
+pub failed_shut : {V : Type 0} (X : Type 0) (told : V → Bool) (history : V → History) (faults : V → ℕ) (sessions : List SessionState) (at : ℕ) (old mid : List V) (x y : V) (fault : StoreFault)
+    → slice_get mid at ≡ Some x → Each (IsTurn told history faults sessions at) old mid → EachShut {X = X} told history (Err (source_fault_of at fault)) old (slice_set mid at y)
+failed_shut X told history faults sessions at old mid x y fault there so =
+    each_turn (IsTurn told history faults sessions at) (λ i v w. OpenedBefore (source_fault_of at fault) i → IsTrue (told v) → IsShut (current (history w))) old mid at x y so there
+    (λ v first p was tells. absurd (let less : at < at = before_it at at fault was in omega (arith, less)))
+    (λ i v w other p was tells. (p.turned (before_it at i fault was)).1.1.shut tells)
+
+-- of want of memory nothing is said
+pub stopped_shut : {V : Type 0} (X : Type 0) (told : V → Bool) (history : V → History) (faults : V → ℕ) (sessions : List SessionState) (at : ℕ) (old mid : List V) (x y : V)
+    → slice_get mid at ≡ Some x → Each (IsTurn told history faults sessions at) old mid → EachShut {X = X} told history (Err NoMemory) old (slice_set mid at y)
+stopped_shut X told history faults sessions at old mid x y there so =
+    each_turn (IsTurn told history faults sessions at) (λ i v w. ⊥ → IsTrue (told v) → IsShut (current (history w))) old mid at x y so there
+    (λ v first p was tells. absurd was)
+    (λ i v w other p was tells. absurd was)
 
 -- no other source failed
 other_fault : (at i : ℕ) (fault : StoreFault) → at ≢ i → source_fault_of at fault ≡ Source i None Device → ⊥

@@ -5,6 +5,7 @@ pub use Rattle.bundle_store.specs.Built
 pub use Rattle.bundle_store.specs.Images
 pub use Rattle.bundle_store.specs.Layout
 pub use Rattle.bundle_store.specs.Recover
+pub use Rattle.bundle_store.specs.Starts
 pub use Rattle.bundle_store.specs.Tiles
 pub use Rattle.opened_bundle.specs.Left
 pub mod Files

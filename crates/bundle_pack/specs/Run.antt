@@ -11,9 +11,10 @@ use Rattle.bundle_store.specs.declared.fault.StoreFault.TheVariants.{Device}
 use Rattle.bundle_store.specs.Built.{filled}
 use Rattle.bundle_store.specs.Images.{EachImage, HoldsClosed}
 use Rattle.bundle_store.specs.Layout.{layout}
+use Rattle.bundle_store.specs.Starts.{CouldBe, EachIsSound, KeepsStart}
 use Rattle.bundle_store.specs.Tiles.{TileMap, no_tiles}
 use Rattle.opened_bundle.specs.Files.{Files}
-use Rattle.opened_bundle.specs.Left.{IsReady, IsShut, KeepsStart}
+use Rattle.opened_bundle.specs.Left.{IsShut}
 use Rattle.program_ends.specs.Moves.{Change, SinkMove, VolumeMove}
 use Rattle.program_ends.specs.Stop.{Gained}
 use Rattle.program_ends.specs.declared.stop.Stop.TheVariants.{Output, OutOfMemory}
@@ -27,7 +28,7 @@ use Rattle.bundle_pack.specs.Opening.{StandsLeft}
 use Rattle.bundle_pack.specs.Packing.{HoldsMerged, IsOfSources, OnTarget, OnUnpacked, PackSays, TargetKeeps}
 use Rattle.bundle_pack.specs.Recovering.{AtMostRecovers}
 use Rattle.bundle_pack.specs.Refusals.{PackFails}
-use Rattle.bundle_pack.specs.Sources.{DeviceAt, Each, SourceMoves}
+use Rattle.bundle_pack.specs.Sources.{DeviceAt, Each, EachShut, SourceMoves}
 
 -- ---- causes
 
@@ -99,6 +100,7 @@ pub record OfRun {V : Type 0} (told : V → Bool) (history : V → History) (fau
       PackSays (all_files history old) (files_in to.history.old) answer
   pub fails : IfErr answer (λ f. PackFails (length old) f)
   pub sources : Each (λ i v w. SourceMoves told history faults (DeviceAt answer i) v w) old new
+  pub shut : EachShut told history answer old new
   pub target : OfTarget (All (λ v. IsTrue (told v)) old) (all_files history old) answer to
   pub output : OfOutput answer end out
   pub line : GivesLineOf end err
@@ -130,17 +132,17 @@ PackedAll maps d out = HoldsClosed (layout (merged maps)) d
       length = length (layout (merged maps));
     }))
 
--- The target at each moment: each image stands for the tiles of the start, or, where there were
--- none, for those of the sources merged.
+-- The target at each moment: each image stands for a map that one stood for at the start, or, where
+-- what was read there had no tiles, for those of the sources merged.
 abbrev pub KeepsOrPacks : List TileMap → TileMap → History → History → Type 0
-KeepsOrPacks maps start old new = During (EachImage (λ map. (map ≡ start)
+KeepsOrPacks maps start old new = During (EachImage (λ map. CouldBe (current old) map
     ⊎ ((start ≡ no_tiles) × (map ≡ merged maps)))) old new
 
--- each source whose files are sound, and of which nothing is pending, keeps its tiles at each
--- moment
+-- each image of each source whose images are sound at the start stands at each moment for a map
+-- that one stood for there, whatever was pending
 abbrev pub EachKeepsStart : {V : Type 0} → (V → Bool) → (V → History) → List V → List V → Type 0
-EachKeepsStart told history old new = Each (λ i v w. (start : TileMap)
-    → IsReady (told v) (history v) start → KeepsStart start (history v) (history w)) old new
+EachKeepsStart told history old new = Each (λ i v w. IsTrue (told v)
+    → EachIsSound (current (history v)) → KeepsStart (history v) (history w)) old new
 
 -- at each moment, whatever a crash leaves, the bundle has its bytes
 abbrev pub KeepsBytes : History → History → Type 0

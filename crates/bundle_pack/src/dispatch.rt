@@ -9,7 +9,8 @@ ghost use Rattle.outside_io.specs.volume.History.{contents, current};
 ghost use Rattle.bundle_index.specs.Sizes.{slot_count};
 ghost use Rattle.bundle_store.specs.Images.{StandsFor};
 ghost use Rattle.bundle_store.specs.Tiles.{TileMap};
-ghost use Rattle.opened_bundle.specs.Left.{IsReady, IsShut, KeepsStart};
+ghost use Rattle.opened_bundle.specs.Left.{IsReady, IsShut};
+ghost use Rattle.bundle_store.specs.Starts.{KeepsStart};
 ghost use Rattle.program_ends.specs.Moves.{sink_move, volume_move};
 ghost use Rattle.program_ends.specs.declared.stop.Stop.{Stop};
 ghost use Rattle.bundle_pack.specs.declared.fault.PackFault.{PackFault};
@@ -21,6 +22,7 @@ ghost use Rattle.bundle_pack.specs.Names.{line_of, packed_line};
 ghost use Rattle.bundle_pack.specs.Opening.{AreOpened, OpensAs};
 ghost use Rattle.bundle_pack.specs.Packing.{IsFree, PackSays};
 ghost use Rattle.bundle_pack.specs.Run.{EachKeepsBytes, EachKeepsStart, EndsAs, EndsWith, IsVolumeCause, KeepsBytes, KeepsOrPacks, OfOutput, OfRun, PackedAll};
+ghost use Rattle.bundle_pack.specs.Sources.{Each};
 ghost use Rattle.bundle_pack.specs.Words.{IsAsked};
 
 use crate::PackFault;
@@ -129,6 +131,11 @@ pub fn run_pack<K: Sink, E: Sink, V: Volume, W: Volume>(
         → PackedAll maps (current (W.history to.new))
         (sink_move K.held K.faults out.old out.new) }
 
+    // Then no source has anything pending or an open journal, so that the target may be moved over
+    // one of them.
+    ensures shut { IsAsked words.now (length from.old) → result ≡ 0
+        → Each (λ i v w. IsTrue (V.told v) → IsShut (current (V.history w))) from.old from.new }
+
     // And with a sound target that recovers to an empty file, and not too many bytes, it comes,
     // unless an object fails or memory is refused.
     ensures complete { IsAsked words.now (length from.old) → All (λ v. IsTrue (V.told v)) from.old
@@ -140,9 +147,10 @@ pub fn run_pack<K: Sink, E: Sink, V: Volume, W: Volume>(
         → OpensAs (files_in (W.history to.old)) [] → result ≢ 4 → result ≢ 5
         → (result ≡ 0) ⊎ (result ≡ 6) }
 
-    // At each moment, whatever the answer: a source keeps its tiles, and its bytes where no put of
-    // it is under way, and the target those of the start, or, from none, these or all that is
-    // packed.
+    // At each moment, whatever the answer, and whatever is pending as the run starts: each image of
+    // a source stands for what one stood for at its start, where each was sound, and has its bytes
+    // where no put of it is under way; and each of the target for what one stood for at its start,
+    // or, where no tiles were read there, for all that is packed.
     ensures sources_keep { IsAsked words.now (length from.old)
         → EachKeepsStart V.told V.history from.old from.new }
     ensures sources_stay { IsAsked words.now (length from.old)
@@ -157,7 +165,7 @@ pub fn run_pack<K: Sink, E: Sink, V: Volume, W: Volume>(
     // and its bytes where no put of it is under way.
     ensures target_unpacked { IsAsked words.now (length from.old) → (start : TileMap)
         → IsReady (W.told to.old) (W.history to.old) start → (result ≡ 6) ⊎ (result ≡ 7)
-        → KeepsStart start (W.history to.old) (W.history to.new) }
+        → KeepsStart (W.history to.old) (W.history to.new) }
     ensures target_stays { IsAsked words.now (length from.old) → IsTrue (W.told to.old)
         → IsShut (current (W.history to.old)) → (result ≡ 6) ⊎ (result ≡ 7)
         → KeepsBytes (W.history to.old) (W.history to.new) }

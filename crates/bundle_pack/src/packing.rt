@@ -14,7 +14,7 @@ ghost use Rattle.bundle_pack.specs.Opening.{StandsLeft};
 ghost use Rattle.bundle_pack.specs.Packing.{HoldsMerged, IsOfSound, IsOfSources, OnTarget, OnUnpacked, PackSays, PacksMaps, TargetKeeps};
 ghost use Rattle.bundle_pack.specs.Recovering.{AtMostRecovers};
 ghost use Rattle.bundle_pack.specs.Refusals.{PackFails};
-ghost use Rattle.bundle_pack.specs.Sources.{DeviceAt, Each, SourceMoves};
+ghost use Rattle.bundle_pack.specs.Sources.{DeviceAt, Each, EachShut, SourceMoves};
 ghost use Rattle.bundle_pack.specs.inside.Collecting.{ReadFails, ReadSays};
 
 use crate::PackFault;
@@ -43,6 +43,7 @@ pub struct PackReport {
 fn read_sources<V: Volume>(alloc: Global, from: &mut [V]) -> Result<Vec<TileRec>, PackFault>
     ensures sources { Each (λ i v w.
         SourceMoves V.told V.history V.faults (DeviceAt result i) v w) from.old from.new }
+    ensures shut { EachShut V.told V.history result from.old from.new }
     ensures fits { IfOk result (λ tiles. EachFits tiles.items) }
     ensures says { All (λ v. IsTrue (V.told v)) from.old → ReadSays
         (all_files V.history from.old) result }
@@ -71,6 +72,7 @@ pub fn pack<V: Volume, W: Volume>(
     requires few { length from.old ≤ 8 }
     ensures sources { Each (λ i v w.
         SourceMoves V.told V.history V.faults (DeviceAt result i) v w) from.old from.new }
+    ensures shut { EachShut V.told V.history result from.old from.new }
     ensures says { All (λ v. IsTrue (V.told v)) from.old → IsTrue (W.told to.old) → PackSays
         (all_files V.history from.old) (files_in (W.history to.old)) result }
     ensures packed { All (λ v. IsTrue (V.told v)) from.old → IsTrue (W.told to.old) →

@@ -3,10 +3,11 @@
 ghost use Rattle.std.specs.Prelude.{◌≡◌, ◌⊎◌, ◌≤◌, ℕ, List, Some, IfOk, IfSome, length};
 ghost use Rattle.std.specs.Process.{exit_status};
 ghost use Rattle.outside_io.specs.program.Line.{GivesLine};
+ghost use Rattle.outside_io.specs.streams.Faults.{IsCause};
 ghost use Rattle.program_ends.specs.Moves.{sink_move, volume_move};
 ghost use Rattle.program_ends.specs.declared.stop.Stop.{Stop};
 ghost use Rattle.bundle_pack.specs.Names.{line_of};
-ghost use Rattle.bundle_pack.specs.Run.{IsUnread, OfRun, asked_by};
+ghost use Rattle.bundle_pack.specs.Run.{IsUnread, IsVolumeCause, OfRun, asked_by};
 ghost use Rattle.bundle_pack.specs.Words.{IsAsked};
 
 use crate::dispatch::run_pack;
@@ -41,6 +42,24 @@ pub fn serve<A: Arguments, K: Sink, E: Sink, V: Volume, W: Volume>(
     from: &mut [V],
     to: &mut W,
 ) -> ExitCode
+    // An object that fails gives its status, and nothing else gives it.
+    ensures output_failed { IsCause (exit_status result ≡ 4) (K.faults out.old) (K.faults out.new) }
+    ensures volume_failed { IsVolumeCause V.faults (exit_status result ≡ 5) from.old from.new
+        (record { old = W.faults to.old; new = W.faults to.new }) }
+
+    // And whatever the arguments tell, a run is one of some words, unless these were not read.
+    ensures some_run { (exit_status result ≡ 1)
+        ⊎ (IsUnread (from.new ≡ from.old) (exit_status result)
+        (volume_move W.told W.history W.faults to.old to.new)
+        (sink_move K.held K.faults out.old out.new)
+        (sink_move E.held E.faults err.old err.new)
+        ⊎ ((words : List (List ℕ)) × (IsAsked words (length from.old)
+        × OfRun V.told V.history V.faults from.old from.new (exit_status result)
+        (volume_move W.told W.history W.faults to.old to.new)
+        (sink_move K.held K.faults out.old out.new)
+        (sink_move E.held E.faults err.old err.new)))) }
+
+    // The rest where the texts are told.
     ensures usage { (texts : List (List ℕ)) → A.texts args.now ≡ Some texts
         → (¬ IsAsked (asked_by texts) (length from.old))
         → (exit_status result ≡ 1) ⊎ IsUnread (from.new ≡ from.old) (exit_status result)

@@ -8,7 +8,7 @@ ghost use Rattle.bundle_store.specs.Causes.{CountsDevice, UnlessDevice};
 ghost use Rattle.bundle_pack.specs.Files.{all_bundles, all_files, files_in};
 ghost use Rattle.bundle_pack.specs.Opening.{StandsLeft};
 ghost use Rattle.bundle_pack.specs.Refusals.{OpeningAnswers};
-ghost use Rattle.bundle_pack.specs.Sources.{DeviceAt, Each, IsServing, RecoversAlone, SourceMoves};
+ghost use Rattle.bundle_pack.specs.Sources.{DeviceAt, Each, EachShut, IsServing, RecoversAlone, SourceMoves};
 ghost use Rattle.bundle_pack.specs.inside.Turns.{OpenAnswers, OpenSays, OpeningSays};
 
 use crate::PackFault;
@@ -44,6 +44,7 @@ pub(crate) fn open_sources<V: Volume>(
 ) -> Result<Vec<Session>, PackFault>
     ensures sources { Each (λ i v w.
         SourceMoves V.told V.history V.faults (DeviceAt result i) v w) from.old from.new }
+    ensures shut { EachShut V.told V.history result from.old from.new }
     ensures serving { IfOk result (λ sessions.
         IsServing V.told V.history sessions.items from.new) }
     ensures says { All (λ v. IsTrue (V.told v)) from.old → OpeningSays

@@ -5,7 +5,9 @@
 
 use bundle_pack::serve;
 use outside_io::{FileVolume, NoVolume, Sink, StdSink, Volume, hold_numbers};
-use program_ends::{Arguments, ProcessArguments, end_without_memory, paths_at, words_from};
+use program_ends::{
+    Arguments, ProcessArguments, end_without_memory, paths_at, tell_files, words_from,
+};
 use std::alloc::{AllocError, Global};
 use std::process::ExitCode;
 
@@ -67,7 +69,11 @@ fn main(rt: HostRuntime) -> ExitCode {
     let count = words.len();
     match file_volumes(alloc, rt, &args, count) {
         Ok(Some(mut volumes)) if held.is_some() => {
-            serve_over(alloc, &args, &mut out, &mut err, volumes.as_mut_slice())
+            let code = serve_over(alloc, &args, &mut out, &mut err, volumes.as_mut_slice());
+            if let Some((to, from)) = volumes.split_first() {
+                tell_files(alloc, code, from, to, &mut err);
+            }
+            code
         }
         Ok(_) => match no_volumes(alloc, count) {
             Ok(mut volumes) => serve_over(alloc, &args, &mut out, &mut err, volumes.as_mut_slice()),

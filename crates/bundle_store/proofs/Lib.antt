@@ -18,10 +18,12 @@ mod OneUpdate
 pub mod Opening
 mod Overlays
 mod Padded
-mod Putting
+pub mod Putting
 pub mod Recovering
 pub mod Refusals
 mod Region
 mod Rests
 pub mod Standing
+pub mod Starting
 mod Unders
+mod Ways

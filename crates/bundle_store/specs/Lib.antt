@@ -10,6 +10,7 @@ pub use Rattle.side_journal.specs.FirstForm
 pub use Rattle.side_journal.specs.Groups
 pub use Rattle.side_journal.specs.Says
 pub use Rattle.side_journal.specs.Bodies
+pub use Rattle.side_journal.specs.Steps
 pub mod Appended
 pub mod Build
 pub mod Built
@@ -25,6 +26,7 @@ pub mod Layout
 pub mod Recover
 pub mod Serving
 pub mod Session
+pub mod Starts
 pub mod Tiles
 pub mod Told
 pub mod inside

@@ -1,7 +1,8 @@
 -- What recovery answers and leaves.
-use Rattle.std.specs.Prelude.{◌≡◌, ◌⊎◌, ℕ, ◌<◌, ◌≤◌, List, [], length, Result, Ok, Err}
+use Rattle.std.specs.Prelude.{◌≡◌, ◌⊎◌, ◌∷◌, ℕ, ◌<◌, ◌≤◌, List, [], drop, length, Result, Ok, Err}
 use Rattle.outside_io.specs.volume.Disk.{Disk, IsImage, IsQuiet, settled}
 use Rattle.side_journal.specs.Says.{Fails, IsOpen, IsWrongAt, SaysBody, SaysBuild}
+use Rattle.side_journal.specs.Steps.{SameBehindGate}
 use Rattle.side_journal.specs.declared.body.Body.{Body}
 use Rattle.bundle_store.specs.declared.fault.StoreFault.{StoreFault}
 use Rattle.bundle_store.specs.declared.fault.StoreFault.TheVariants.{Device, BadJournal}
@@ -86,6 +87,41 @@ abbrev pub EachBundleMidway : Disk → Disk → Type 0
 EachBundleMidway old now = (b : List ℕ) → IsImage now.bundle b →
     IsImage old.bundle b ⊎ IsMidway old.bundle.now old.journal.now b
 
+-- the work of an open journal is done: its tiles are put, or the bundle that was being built is
+-- empty
+abbrev pub IsWorkDone : List ℕ → List ℕ → List ℕ → Type 0
+IsWorkDone bundle journal now =
+    ((a : AppliesTo bundle journal) × (now ≡ with_body a.body bundle))
+    ⊎ (IsOpen journal × (SaysBuild journal × (now ≡ [])))
+
+-- What a recovery makes of both files, nothing being pending: the journal as it is, beside a bundle
+-- that is midway; or the journal but for its gate, beside the bundle once its work is done.
+abbrev pub IsOnTheWay : List ℕ → List ℕ → List ℕ → List ℕ → Type 0
+IsOnTheWay bundle journal b j = (IsMidway bundle journal b × (j ≡ journal))
+    ⊎ (IsWorkDone bundle journal b × SameBehindGate journal j)
+
+-- each image is such a pair
+abbrev pub EachOnTheWay : List ℕ → List ℕ → Disk → Type 0
+EachOnTheWay bundle journal now = (b j : List ℕ) → IsImage now.bundle b → IsImage now.journal j →
+    IsOnTheWay bundle journal b j
+
+-- each image is one of the disk at the start, or such a pair of what was read there
+abbrev pub EachKeptOrOnTheWay : Disk → Disk → Type 0
+EachKeptOrOnTheWay old now = (b j : List ℕ) → IsImage now.bundle b → IsImage now.journal j →
+    (IsImage old.bundle b × IsImage old.journal j)
+    ⊎ IsOnTheWay old.bundle.now old.journal.now b j
+
+-- Beside a journal that is not open nothing is on the way but what is read.
+abbrev pub ClosedStays : Type 0
+ClosedStays = (bundle journal b j : List ℕ) → ¬ IsOpen journal → IsOnTheWay bundle journal b j →
+    (b ≡ bundle) × (j ≡ journal)
+
+-- the journal that a recovery leaves: as it is, or with its gate closed
+abbrev pub LeavesJournal : List ℕ → Recovery → List ℕ → Type 0
+LeavesJournal journal Closed left = left ≡ journal
+LeavesJournal journal Applied left = left ≡ 0 ∷ drop 1 journal
+LeavesJournal journal Emptied left = left ≡ 0 ∷ drop 1 journal
+
 -- nothing is pending, the journal does not count, and the disk stands for what these files stood
 -- for
 pub record IsRecovered (bundle journal : List ℕ) (d : Disk) : Type 0 where
@@ -98,6 +134,11 @@ pub record IsRecovered (bundle journal : List ℕ) (d : Disk) : Type 0 where
 abbrev pub OnBadJournal : {X : Type 0} → Result X StoreFault → Type 0 → Type 0
 OnBadJournal (Err (BadJournal place found)) P = P
 OnBadJournal _ P = Unit {0}
+
+-- where recovery finds a journal that does not count
+abbrev pub OnClosed : Result Recovery StoreFault → Type 0 → Type 0
+OnClosed (Ok Closed) P = P
+OnClosed _ P = Unit {0}
 
 -- The kept numbers of a refusal of a recovery fail the test of their place, over whatever volume.
 -- That the bundle is shorter than the length found at 16 or 24 is said only where the volume tells

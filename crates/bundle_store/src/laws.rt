@@ -4,6 +4,7 @@
 // law.
 
 ghost use Rattle.std.specs.Prelude.{◌≡◌, ◌≢◌, ◌++◌, ◌+◌, ◌^◌, ◌<◌, ◌≤◌, ℕ, List, [], Result, Err, length, replicate};
+ghost use Rattle.outside_io.specs.volume.Disk.{Disk, IsQuiet};
 ghost use Rattle.bundle_index.specs.Entry.{entry_at};
 ghost use Rattle.bundle_index.specs.Header.{fresh_header};
 ghost use Rattle.bundle_index.specs.Sizes.{index_end, slot_count};
@@ -19,7 +20,8 @@ ghost use Rattle.bundle_store.specs.FirstImages.{StoodFor};
 ghost use Rattle.bundle_store.specs.GroupPuts.{AreSlots, AreTilesIn, HasRoomFor, bundle_with_tiles, group_records, new_entries, with_entries};
 ghost use Rattle.bundle_store.specs.Images.{StandsFor};
 ghost use Rattle.bundle_store.specs.Layout.{layout};
-ghost use Rattle.bundle_store.specs.Recover.{Leaves, RecoverySays};
+ghost use Rattle.bundle_store.specs.Recover.{ClosedStays, Leaves, RecoverySays};
+ghost use Rattle.bundle_store.specs.Starts.{CouldBe, EachIsSound};
 ghost use Rattle.bundle_store.specs.Tiles.{AreTiles, IsBundle, IsReadable, Opens, TileMap, no_tiles, tiles, with_tile};
 
 /// An image stands for one map at most.
@@ -110,4 +112,18 @@ pub fn recoveries_leave_one_bundle()
     ensures { (bundle journal : List ℕ) (one two : Recovery) (left other : List ℕ) →
         Leaves bundle journal one left → Leaves bundle journal two other →
         (one ≡ two) × (left ≡ other) }
+{}
+
+/// Beside a journal that is not open all that a recovery makes of both files is what they are.
+pub fn closed_journals_stay()
+    ensures { ClosedStays }
+{}
+
+/// Where nothing is pending, and what is read stands for a map, each image is sound, and could be
+/// that map alone.
+pub fn quiet_starts_have_one_map()
+    ensures sound { (d : Disk) (start : TileMap) → IsQuiet d →
+        StandsFor d.bundle.now d.journal.now start → EachIsSound d }
+    ensures one { (d : Disk) (start map : TileMap) → IsQuiet d →
+        StandsFor d.bundle.now d.journal.now start → CouldBe d map → map ≡ start }
 {}

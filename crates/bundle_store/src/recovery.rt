@@ -11,7 +11,7 @@ ghost use Rattle.bundle_store.specs.Causes.{CountsDevice};
 ghost use Rattle.bundle_store.specs.inside.Grouped.{SaysThese};
 ghost use Rattle.bundle_store.specs.inside.Parts.{EachKeeps, EachMidway, EachWholeOrNone};
 ghost use Rattle.bundle_store.specs.Images.{EachImage};
-ghost use Rattle.bundle_store.specs.Recover.{EachBundleMidway, EachStandsForOneOf, IsRecovered, Leaves, OnBadJournal, RecoverFails, RecoverySays, synced_disk};
+ghost use Rattle.bundle_store.specs.Recover.{EachBundleMidway, EachKeptOrOnTheWay, EachOnTheWay, EachStandsForOneOf, IsRecovered, Leaves, LeavesJournal, OnBadJournal, OnClosed, RecoverFails, RecoverySays, synced_disk};
 ghost use Rattle.bundle_store.specs.Tiles.{no_tiles};
 ghost use Rattle.bundle_store.specs.Told.{Changes, Told};
 ghost use Rattle.bundle_store.specs.inside.Finishing.{Finishes};
@@ -47,6 +47,9 @@ fn empty<V: Volume>(vol: &mut V) -> Result<(), Failed>
     }) }
     ensures bytes { IsTrue (V.told vol.old) → During (EachWholeOrNone (contents Bundle
         (V.history vol.old))) (V.history vol.old) (V.history vol.new) }
+    ensures files { IsTrue (V.told vol.old) →
+        During (EachOnTheWay (contents Bundle (V.history vol.old)) (contents Journal
+        (V.history vol.old))) (V.history vol.old) (V.history vol.new) }
     ensures changes { Changes V.told V.history V.faults (CountsFaults result)
         (λ _. EachImage (λ map. map ≡ no_tiles)) vol.old vol.new }
 {
@@ -73,6 +76,9 @@ fn finish_group<V: Volume>(
     ensures bytes { IsTrue (V.told vol.old) →
         During (EachMidway (contents Bundle (V.history vol.old)) (contents Journal
         (V.history vol.old))) (V.history vol.old) (V.history vol.new) }
+    ensures files { IsTrue (V.told vol.old) →
+        During (EachOnTheWay (contents Bundle (V.history vol.old)) (contents Journal
+        (V.history vol.old))) (V.history vol.old) (V.history vol.new) }
     ensures finishes { Finishes V.told V.history result vol.old vol.new }
     ensures changes { Changes V.told V.history V.faults (CountsDevice result)
         (λ old. EachKeeps old.bundle.now old.journal.now) vol.old vol.new }
@@ -89,6 +95,9 @@ fn finish<V: Volume>(vol: &mut V) -> Result<Recovery, StoreFault>
     requires quiet { IsTrue (V.told vol.old) → IsQuiet (current (V.history vol.old)) }
     ensures bytes { IsTrue (V.told vol.old) →
         During (EachMidway (contents Bundle (V.history vol.old)) (contents Journal
+        (V.history vol.old))) (V.history vol.old) (V.history vol.new) }
+    ensures files { IsTrue (V.told vol.old) →
+        During (EachOnTheWay (contents Bundle (V.history vol.old)) (contents Journal
         (V.history vol.old))) (V.history vol.old) (V.history vol.new) }
     ensures finishes { Finishes V.told V.history result vol.old vol.new }
     ensures changes { Changes V.told V.history V.faults (CountsDevice result)
@@ -131,12 +140,19 @@ pub fn recover<V: Volume>(vol: &mut V) -> Result<Recovery, StoreFault>
     ensures bytes { IsTrue (V.told vol.old) →
         During (EachBundleMidway (current (V.history vol.old))) (V.history vol.old)
         (V.history vol.new) }
+    ensures files { IsTrue (V.told vol.old) →
+        During (EachKeptOrOnTheWay (current (V.history vol.old))) (V.history vol.old)
+        (V.history vol.new) }
     ensures done { IsTrue (V.told vol.old) →
         OnOk result (IsRecovered (contents Bundle (V.history vol.old)) (contents Journal
         (V.history vol.old)) (current (V.history vol.new))) }
     ensures leaves { IsTrue (V.told vol.old) → IfOk result (λ r. Leaves (contents Bundle
         (V.history vol.old)) (contents Journal (V.history vol.old)) r
         (contents Bundle (V.history vol.new))) }
+    ensures journal { IsTrue (V.told vol.old) → IfOk result (λ r. LeavesJournal
+        (contents Journal (V.history vol.old)) r (contents Journal (V.history vol.new))) }
+    ensures closed { IsTrue (V.told vol.old) → OnClosed result (current (V.history vol.new)
+        ≡ synced_disk (current (V.history vol.old))) }
     ensures answers { IfErr result (λ f. RecoverFails f) }
     ensures refused { IsTrue (V.told vol.old) → OnBadJournal result (current (V.history vol.new)
         ≡ synced_disk (current (V.history vol.old))) }

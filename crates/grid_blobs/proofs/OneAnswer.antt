@@ -1,5 +1,5 @@
 -- The answer to a whole input that is to be one grid of bands: there is one.
-use Rattle.std.proofs.Common.{◌≡◌, ℕ, List, [], length, length-append, Option, None, Some, refl, sym, ap, subst, ◌∙◌, arith}
+use Rattle.std.proofs.Common.{◌≡◌, ℕ, List, [], length, length-append, None, Some, refl, sym, ap, subst, ◌∙◌, arith}
 use Rattle.std.proofs.lemmas.List.{append-nil}
 use Rattle.raster_values.specs.Raster.{Pixels}
 use Rattle.raster_grids.specs.declared.reading.GridReason.{GridReason}

@@ -3,6 +3,9 @@ pub use Rattle.outside_io.specs.streams.Faults
 pub use Rattle.outside_io.specs.streams.Sink
 pub use Rattle.outside_io.specs.streams.Source
 pub use Rattle.lerc_header.specs.Written
+pub use Rattle.outside_io.specs.volume.Disk
+pub use Rattle.outside_io.specs.volume.History
+pub use Rattle.bundle_store.specs.Starts
 pub use Rattle.bundle_store.specs.Tiles.{TileMap}
 pub use Rattle.tile_updates.specs.Updates
 pub use Rattle.sample_tiles.specs.Sums

@@ -234,10 +234,11 @@ pub fn run<R: Threads + Sync, S: Source, K: Sink, E: Sink, V: Volume, G: Gate>(
         × GivesLine (E.held err.old) (E.held err.new) (E.faults err.old) (E.faults err.new)
         (line_of (Stop.Refused refusal)) }
 
-    // At each moment of the run each image that a crash may leave is sound. It stands for the tiles
-    // that stood as the run began; for `put`, with the first few of its updates done, those that
-    // have a mark by then, or also the next group of up to 64, whole; for `build`, with all done,
-    // or with none as long as none has a mark.
+    // Where each image that a crash might leave as the run begins is sound, whatever is pending
+    // then, so is each at each moment of it. It stands for tiles that one stood for then, while no
+    // update has a mark; else, for `put`, for those that were read then with the first few of its
+    // updates done, those that have a mark by then, or also the next group of up to 64, whole; for
+    // `build`, with all done, or with none as long as none has a mark.
     ensures kept { (c : Command) → IsSpelled c words.now
         → (end : End) × ((result.status ≡ status_at end)
         × KeepsUpdates c

@@ -21,7 +21,7 @@ mod telling;
 mod words;
 
 pub use dispatch::run;
-pub use laws::{one_answer, one_command, survives_cuts};
+pub use laws::{one_answer, one_command, runs_from_rest_keep_their_tiles, survives_cuts};
 pub use process::serve;
 pub use refusal::{Fault, Reason, Refusal, StreamRefusal};
 pub use words::{Command, USAGE};

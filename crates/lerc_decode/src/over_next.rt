@@ -49,7 +49,6 @@ fn bits_behind(blob: &SummedBlob, form: &MaskForm, bits: &mut [u8]) -> Result<()
         (Some (count_of (marks_in (blob.now.header.rows * blob.now.header.cols) bits.old)))
         blob.now.header blob.now.bytes.now form.now }
     requires room { length bits.old ≡ mask_size (blob.now.header.rows * blob.now.header.cols) }
-    ensures room { length bits.new ≡ length bits.old }
     ensures ok { OnOk result
         (IsMaskBehind blob.now.header blob.now.bytes.now form.now bits.old bits.new) }
     ensures spare { OnOk result ((k : ℕ) → blob.now.header.rows * blob.now.header.cols ≤ k

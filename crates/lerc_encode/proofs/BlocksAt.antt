@@ -16,7 +16,7 @@ use Rattle.micro_block.specs.ChosenBlock as micro
 use Rattle.micro_block.specs.ChosenBlock.{block_bytes, chosen_form}
 use Rattle.lerc_grammar.specs.Blocks.{blocks_across, block_col, coded_blocks, coded_values}
 use Rattle.lerc_encode.specs.Images.{coded_bytes}
-use Rattle.lerc_encode.specs.declared.blocks.BlockAt.{BlockAt}
+use Rattle.lerc_encode.specs.declared.blocks.chosen_blocks.BlockAt.{BlockAt}
 use Rattle.lerc_encode.specs.inside.Blocked.{HasTable, HasTableAt, IsBlocked, IsBlockAt, IsWithin, bytes_at, values_at}
 use Rattle.lerc_encode.proofs.Blocking.{block_fits, row_within, col_within, depth_within}
 

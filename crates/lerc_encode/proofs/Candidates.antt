@@ -16,10 +16,10 @@ use Rattle.lerc_encode.specs.inside.Coded.{AreCodings, AreSymbols, HasSymbols}
 use Rattle.lerc_encode.specs.inside.Choosing.{IsBase, IsChosen, named, form_at}
 use Rattle.lerc_encode.specs.inside.Blocked.{IsMeasured}
 use Rattle.lerc_encode.specs.Heads.{header_of}
-use Rattle.lerc_encode.specs.declared.blocks.Measured.{Measured}
-use Rattle.lerc_encode.specs.declared.forms.ValueForm.{ValueForm}
-use Rattle.lerc_encode.specs.declared.codings.Coding.{Coding}
-use Rattle.lerc_encode.specs.declared.codings.Codings.{Codings}
+use Rattle.lerc_encode.specs.declared.blocks.chosen_blocks.Measured.{Measured}
+use Rattle.lerc_encode.specs.declared.image.forms.ValueForm.{ValueForm}
+use Rattle.lerc_encode.specs.declared.code_words.codings.Coding.{Coding}
+use Rattle.lerc_encode.specs.declared.code_words.codings.Codings.{Codings}
 use Rattle.lerc_encode.proofs.Forming.{small_is, large_is}
 use Rattle.lerc_encode.proofs.Standing.{MayBe}
 

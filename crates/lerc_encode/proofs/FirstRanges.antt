@@ -11,8 +11,8 @@ use Rattle.std.proofs.lemmas.List.FromFn.{map-range_with_len_more, length-map-ra
 use Rattle.raster_values.specs.Raster.{Pixels, IsRaster}
 use Rattle.micro_block.specs.ChosenBlock.{least_value}
 use Rattle.lerc_encode.specs.Ranges.{depth_values, greatest_value}
-use Rattle.lerc_encode.specs.declared.ranging.Range.{Range}
-use Rattle.lerc_encode.specs.declared.ranging.Ranges.{Ranges}
+use Rattle.lerc_encode.specs.declared.image.ranging.Range.{Range}
+use Rattle.lerc_encode.specs.declared.image.ranging.Ranges.{Ranges}
 use Rattle.lerc_encode.specs.inside.Choosing.{AreRanges}
 use Rattle.lerc_encode.proofs.Extremes.{whole_least, whole_greatest}
 

@@ -8,8 +8,8 @@ use Rattle.first_fault.specs.Parts.{AreBytes}
 use Rattle.huff_codes.specs.Written.{written_size}
 use Rattle.huff_codes.proofs.Filling.{joined_within}
 use Rattle.lerc_encode.specs.Images.{all_deltas}
-use Rattle.lerc_encode.specs.declared.symbols.SymbolMode.{SymbolMode}
-use Rattle.lerc_encode.specs.declared.symbols.SymbolMode.TheVariants.{Deltas, Plain}
+use Rattle.lerc_encode.specs.declared.code_words.symbols.SymbolMode.{SymbolMode}
+use Rattle.lerc_encode.specs.declared.code_words.symbols.SymbolMode.TheVariants.{Deltas, Plain}
 use Rattle.lerc_encode.specs.inside.Coded.{symbols_of}
 use Rattle.lerc_encode.proofs.SymbolForms.{all_bytes, bytes_from}
 

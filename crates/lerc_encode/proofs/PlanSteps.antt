@@ -7,7 +7,7 @@ use Rattle.bit_stuff.proofs.Buffers.{front_written}
 use Rattle.raster_values.specs.Raster.{Pixels}
 use Rattle.lerc_header.specs.declared.header.Version.{Version}
 use Rattle.lerc_grammar.specs.Bands.{last_after}
-use Rattle.lerc_encode.specs.declared.blob.Plan.{Plan}
+use Rattle.lerc_encode.specs.declared.blobs.blob.Plan.{Plan}
 use Rattle.lerc_encode.specs.Choice.{chosen_after, chosen_bands}
 use Rattle.lerc_encode.specs.Masks.{runs_after}
 use Rattle.lerc_encode.specs.inside.Joined.{ArePlans, IsPlanAt}

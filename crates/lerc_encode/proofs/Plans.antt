@@ -3,7 +3,7 @@ use Rattle.std.proofs.Common.{◌≡◌, ℕ, List, refl, sym, ap, ◌∙◌, su
 use Rattle.raster_values.specs.Raster.{Pixels}
 use Rattle.raster_values.specs.Flat.{marks_of}
 use Rattle.lerc_header.specs.declared.header.Version.{Version}
-use Rattle.lerc_encode.specs.declared.blob.Plan.{Plan}
+use Rattle.lerc_encode.specs.declared.blobs.blob.Plan.{Plan}
 use Rattle.lerc_encode.specs.Choice.{chosen_blob, chosen_with}
 use Rattle.lerc_encode.specs.Masks.{runs_unless}
 use Rattle.lerc_encode.specs.inside.Asked.{IsAsked}

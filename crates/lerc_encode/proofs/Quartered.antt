@@ -13,7 +13,7 @@ use Rattle.raster_values.specs.Raster.{Pixels}
 use Rattle.lerc_header.specs.declared.header.Header.{Header}
 use Rattle.lerc_grammar.specs.Blocks.{block_col, block_depth, block_row, blocks_across, blocks_down, coded_blocks}
 use Rattle.lerc_encode.specs.Images.{blocks_bytes, coded_bytes}
-use Rattle.lerc_encode.specs.declared.blocks.BlockAt.{BlockAt}
+use Rattle.lerc_encode.specs.declared.blocks.chosen_blocks.BlockAt.{BlockAt}
 use Rattle.lerc_encode.specs.inside.Blocked.{IsBlocked, IsBlockAt, IsWithin, bytes_at}
 use Rattle.lerc_encode.specs.inside.Sides.{four_sizes, number_at, size_at}
 use Rattle.lerc_encode.proofs.Runs.{two_runs}

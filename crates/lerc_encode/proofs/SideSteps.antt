@@ -15,9 +15,9 @@ use Rattle.raster_cells.specs.declared.kind.PixelType.{PixelType}
 use Rattle.raster_cells.specs.Distance.{IsDistance, value_above}
 use Rattle.raster_values.specs.Raster.{Pixels}
 use Rattle.lerc_header.specs.declared.header.Header.{Header}
-use Rattle.lerc_encode.specs.declared.blocks.BlockAt.{BlockAt}
+use Rattle.lerc_encode.specs.declared.blocks.chosen_blocks.BlockAt.{BlockAt}
 use Rattle.lerc_encode.specs.inside.Blocked.{HasTable}
-use Rattle.lerc_encode.specs.declared.flags.Flags.{Flags}
+use Rattle.lerc_encode.specs.declared.blocks.flags.Flags.{Flags}
 use Rattle.lerc_encode.specs.inside.Flags.{IsFlagged, IsMarked, room_of}
 use Rattle.lerc_encode.specs.inside.Sides.{AreMore, IsFlaggedAt, IsMore}
 

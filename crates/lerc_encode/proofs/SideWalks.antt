@@ -13,10 +13,10 @@ use Rattle.raster_values.specs.Raster.{Pixels}
 use Rattle.lerc_header.specs.declared.header.Header.{Header}
 use Rattle.lerc_grammar.specs.Blocks.{coded_blocks}
 use Rattle.lerc_encode.specs.Images.{blocks_bytes, coded_bytes}
-use Rattle.lerc_encode.specs.declared.blocks.BlockAt.{BlockAt}
-use Rattle.lerc_encode.specs.declared.blocks.Measured.{Measured}
+use Rattle.lerc_encode.specs.declared.blocks.chosen_blocks.BlockAt.{BlockAt}
+use Rattle.lerc_encode.specs.declared.blocks.chosen_blocks.Measured.{Measured}
 use Rattle.lerc_encode.specs.inside.Blocked.{AreFlags, HasTable, HasTableAt, IsBlocked, IsMeasured, IsBlockAt, IsWithin, bytes_at}
-use Rattle.lerc_encode.specs.declared.flags.Flags.{Flags}
+use Rattle.lerc_encode.specs.declared.blocks.flags.Flags.{Flags}
 use Rattle.lerc_encode.specs.inside.Flags.{IsMarked, room_of}
 use Rattle.lerc_encode.specs.inside.Sides.{AreFlaggedAt, AreMore, IsFlaggedAt, IsMore, below, corner, four_sizes, four_values, right_of}
 use Rattle.lerc_encode.proofs.Blocking.{block_fits}

@@ -19,7 +19,7 @@ use Rattle.delta_mode.specs.Symbols.{symbol_of}
 use Rattle.delta_mode.specs.Deltas.{plain}
 use Rattle.lerc_encode.specs.Codings.{have_codes}
 use Rattle.lerc_encode.specs.inside.Coded.{AreSymbols, AreThere, IsCodingOf, IsLying}
-use Rattle.lerc_encode.specs.declared.codings.Coding.{Coding}
+use Rattle.lerc_encode.specs.declared.code_words.codings.Coding.{Coding}
 use Rattle.lerc_encode.proofs.Extremes.{all_of, values_in_range}
 use Rattle.lerc_encode.proofs.Packing.{all_on, count_marks, long_marks}
 

@@ -7,7 +7,7 @@ use Rattle.micro_block.specs.ChosenBlock as micro
 use Rattle.micro_block.specs.ChosenBlock.{block_bytes, chosen_form}
 use Rattle.micro_block.proofs.Permuted.{same_form, same_length}
 use Rattle.lerc_header.specs.declared.header.Header.{Header}
-use Rattle.lerc_encode.specs.declared.blocks.BlockAt.{BlockAt}
+use Rattle.lerc_encode.specs.declared.blocks.chosen_blocks.BlockAt.{BlockAt}
 use Rattle.lerc_encode.specs.inside.Blocked.{HasTableAt, bytes_at, values_at}
 use Rattle.lerc_encode.specs.inside.Sides.{four_values}
 use Rattle.lerc_encode.proofs.Quarters.{quarters_16}

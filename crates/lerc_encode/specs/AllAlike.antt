@@ -2,7 +2,7 @@
 use Rattle.std.specs.Prelude.{ℕ, ℤ, Option, Some, None}
 use Rattle.raster_cells.specs.declared.kind.PixelType.{PixelType}
 use Rattle.raster_values.specs.Raster.{Pixels, blank, filled}
-use Rattle.lerc_encode.specs.declared.alike_raster.AlikeRaster.{AlikeRaster}
+use Rattle.lerc_encode.specs.declared.blobs.alike_raster.AlikeRaster.{AlikeRaster}
 
 -- no pixel is valid, or every one, with one value at each depth
 abbrev pub alike : PixelType → ℕ → ℕ → ℕ → Option ℤ → Pixels

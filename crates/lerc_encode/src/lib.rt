@@ -6,28 +6,16 @@
 //! one raster, which is near the given one.
 #![tactic(auto)]
 
-mod alike;
-mod alike_raster;
-mod bands;
-mod blob;
-mod block_view;
+mod blobs;
 mod blocks;
-mod byte_view;
-mod choosing;
-mod codings;
-mod flags;
-mod forms;
-mod images;
+mod code_words;
+mod image;
 mod laws;
-mod masks;
-mod ranging;
-mod sides;
-mod symbols;
 
-pub use alike::encode_alike_over;
-pub use alike_raster::AlikeRaster;
-pub use bands::encode_bands;
-pub use blob::{EncodeFault, LayFault, encode_view, encode_view_over};
+pub use blobs::alike::encode_alike_over;
+pub use blobs::alike_raster::AlikeRaster;
+pub use blobs::bands::encode_bands;
+pub use blobs::blob::{EncodeFault, LayFault, encode_view, encode_view_over};
 pub use laws::{
     bands_decode, blobs_are_small, choices_decode, codings_are_written, masks_are_taken,
 };

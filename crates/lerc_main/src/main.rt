@@ -5,7 +5,7 @@
 
 use lerc_cli::serve;
 use outside_io::{FileVolume, NoVolume, StdSink, StdSource, hold_numbers};
-use program_ends::{ProcessArguments, end_without_memory, paths_at};
+use program_ends::{ProcessArguments, end_without_memory, paths_at, tell_files};
 use std::process::ExitCode;
 use tile_workers::Open;
 
@@ -20,9 +20,11 @@ fn main(rt: HostRuntime) -> ExitCode {
     match paths_at(alloc, &args, 1) {
         Ok(Some(paths)) if held.is_some() => {
             let mut vol = FileVolume::new(rt, paths.bundle, paths.journal);
-            serve(
+            let code = serve(
                 &rt, alloc, &args, &mut src, &mut out, &mut err, &mut vol, &Open,
-            )
+            );
+            tell_files(alloc, code, &[], &vol, &mut err);
+            code
         }
         Ok(_) => {
             let mut vol = NoVolume::new();

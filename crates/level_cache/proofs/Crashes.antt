@@ -4,12 +4,12 @@ use Rattle.std.specs.Prelude.{if◌then◌else◌}
 use Rattle.outside_io.specs.volume.Disk.{Disk, IsDiskImage, settled}
 use Rattle.outside_io.proofs.VolumeLemmas.Images.{only_image}
 use Rattle.bundle_store.specs.Images.{EachImage, StandsFor}
+use Rattle.bundle_store.specs.Starts.{CouldBe, EachIsSound, IsCrashOf}
 use Rattle.bundle_store.specs.Tiles.{TileMap, with_tile}
 use Rattle.bundle_store.proofs.Recovering.{one_map}
 use Rattle.level_cache.specs.Places.{Corner, same_corner}
-use Rattle.level_cache.specs.Calls.{CouldBe, EachIsSound}
-use Rattle.level_cache.specs.Crashes.{After, Behind, Disks, EachAfterPut, Either, IsLeftOf, IsStep, LastOrLater, Step, StepsKeepTiles}
-use Rattle.level_cache.specs.Crashes.Step.{Put, Get, Crash}
+use Rattle.level_cache.specs.Crashes.{After, Behind, Disks, EachAfterPut, Either, IsStep, LastOrLater, Step, StepsKeepTiles}
+use Rattle.level_cache.specs.Crashes.Step.{Put, Get, Crash, Kill}
 use Rattle.level_cache.proofs.Corners.{by_bool, is_same, same_is}
 
 -- ---- images
@@ -26,7 +26,7 @@ sound_by : (P : TileMap → Type 0) (d : Disk) → EachImage P d → EachIsSound
 sound_by P d each = λ b j ib ij. (let s = each b j ib ij in record { map = s.map; stands = s.stands; passes = tt })
 
 -- a crash leaves one image
-left_image : (old new : Disk) (b j : List ℕ) (is : IsLeftOf old new) → IsDiskImage new b j → (b ≡ is.bundle) × (j ≡ is.journal)
+left_image : (old new : Disk) (b j : List ℕ) (is : IsCrashOf old new) → IsDiskImage new b j → (b ≡ is.bundle) × (j ≡ is.journal)
 left_image old new b j is image =
     let at = subst (λ (d : Disk). IsDiskImage d b j) is.left image in
     (only_image (settled is.bundle) b refl at.bundle, only_image (settled is.journal) j refl at.journal)
@@ -96,6 +96,9 @@ step_sound Crash old new sound is base = λ b j ib ij.
     let same = left_image (old base) (new base) b j left (record { bundle = ib; journal = ij }) in
     let was = sound base left.bundle left.journal left.image.bundle left.image.journal in
     record { map = was.map; stands = subst (λ (l : List ℕ). StandsFor l j was.map) (sym same.0) (subst (λ (l : List ℕ). StandsFor left.bundle l was.map) (sym same.1) was.stands); passes = tt }
+step_sound Kill old new sound is base = λ b j ib ij.
+    let image = (is base).images b j (record { bundle = ib; journal = ij }) in
+    sound base b j image.bundle image.journal
 
 step_leads : (s : Step) (old new : Disks) (P : ℕ → Option (List ℕ) → Type 0) → ((base : Corner) → EachIsSound (old base)) → IsStep s old new → (base : Corner) → Leads s base P (old base) (new base)
 step_leads (Put own at tile acknowledged) old new P sound is base = by_bool (same_corner base own) (Leads (Put own at tile acknowledged) base P (old base) (new base))
@@ -113,6 +116,8 @@ step_leads Crash old new P sound is base = λ map could.
     let left = is base in
     let same = left_image (old base) (new base) could.bundle could.journal left could.image in
     (map, (could_be (old base) left.bundle left.journal map left.image (subst (λ (l : List ℕ). StandsFor l left.journal map) same.0 (subst (λ (l : List ℕ). StandsFor could.bundle l map) same.1 could.stands)), λ slot holds. holds))
+step_leads Kill old new P sound is base = λ map could.
+    (map, (could_be (old base) could.bundle could.journal map ((is base).images could.bundle could.journal could.image) could.stands, λ slot holds. holds))
 
 -- ---- any steps
 

@@ -6,11 +6,12 @@ use Rattle.outside_io.specs.volume.History.{During, History, current}
 use Rattle.outside_io.proofs.VolumeLemmas.Moments.{during_end}
 use Rattle.bundle_store.specs.declared.fault.StoreFault.{StoreFault}
 use Rattle.bundle_store.specs.Recover.{EachStandsForOneOf}
+use Rattle.bundle_store.specs.Starts.{EachIsSound}
 use Rattle.level_cache.specs.declared.level.LevelFault.{LevelFault}
 use Rattle.level_cache.specs.declared.level.LevelFault.TheVariants.{Shelf, Store}
 use Rattle.level_cache.specs.Places.{Corner, same_corner}
 use Rattle.level_cache.specs.Shelf.{Hands, SameBeside}
-use Rattle.level_cache.specs.Calls.{EachIsSound, EachWith, EachWithOrWithout, GetsFrom, Lends, LevelMoves, PutsIn}
+use Rattle.level_cache.specs.Calls.{EachWith, EachWithOrWithout, GetsFrom, Lends, LevelMoves, PutsIn}
 use Rattle.level_cache.specs.Crashes.{Disks, IsStep, Tells, disk_of, disks_of, with_disk}
 use Rattle.level_cache.specs.Crashes.Step.{Put, Get}
 use Rattle.level_cache.proofs.Corners.{by_bool, is_same, not_same, same_is}

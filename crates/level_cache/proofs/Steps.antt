@@ -1,6 +1,6 @@
 -- What recovering, opening, and putting or getting leave, one after the other.
 use Rattle.std.proofs.Common.{◌≡◌, ◌≤◌, inl, inr, List, refl, sym, subst, arith, ap, ◌∙◌, Some, None, length, ℕ, ◌<◌, ◌+◌, ◌^◌, Result, Ok, Err, OnOk, IfOk, IfErr, IsErrOf}
-use Rattle.outside_io.specs.volume.Disk.{Disk, IsImage, IsQuiet, IsSettled}
+use Rattle.outside_io.specs.volume.Disk.{Disk, IsQuiet, IsSettled}
 use Rattle.outside_io.specs.volume.History.{During, History, IsPresent, contents, current}
 use Rattle.outside_io.proofs.VolumeLemmas.Images.{only_image, present_of}
 use Rattle.outside_io.proofs.VolumeLemmas.Moments.{during_end, during_join, during_map}
@@ -18,18 +18,19 @@ use Rattle.bundle_store.specs.declared.recovery.Recovery.TheVariants.{Closed as 
 use Rattle.bundle_store.specs.Appended.{bundle_after_put}
 use Rattle.bundle_store.specs.Causes.{OnCause, OnRefusal}
 use Rattle.bundle_store.specs.Images.{EachImage, HoldsClosed, Shows, StandsFor, WithOrWithout}
-use Rattle.bundle_store.specs.Recover.{EachStandsForOneOf, IsRecovered, Leaves, RecoverFails, RecoverySays, Refuses}
+use Rattle.bundle_store.specs.Recover.{EachKeptOrOnTheWay, EachStandsForOneOf, IsRecovered, Leaves, RecoverFails, RecoverySays, Refuses}
 use Rattle.bundle_store.specs.Session.{GetFails, GetGives, GetRefuses as GetRefusesOf, IsBeyond, KeepsLength, OpenFails, OpenRefuses, PutFails}
+use Rattle.bundle_store.specs.Starts.{CouldBe, EachIsSound}
 use Rattle.bundle_store.specs.Tiles.{IsReadable, Opens, TileMap, tiles, with_tile}
 use Rattle.bundle_store.proofs.OneRecovery.{one_answer}
 use Rattle.bundle_store.proofs.PutLaws.{put_readable, put_replaces, tiles_there}
-use Rattle.bundle_store.proofs.Recovering.{one_map}
 use Rattle.bundle_store.proofs.Refusals.{by_opening, by_recovery, on_unless, refusal_weaker}
+use Rattle.bundle_store.proofs.Starting.{one_start, only_start, was_sound}
 use Rattle.bundle_store.proofs.Standing.{closed_map, weaker}
 use Rattle.opened_bundle.specs.declared.refusal.StoreRefusal.TheVariants.{BadBundle as NoBundle}
 use Rattle.opened_bundle.specs.Files.{OfBundle}
 use Rattle.opened_bundle.proofs.OneBundle.{recovered_or_opening}
-use Rattle.level_cache.specs.Calls.{CanBeSound, CouldBe, EachIsSound, EachWith, EachWithOrWithout, GetRefusal, GetRefuses, GetsFrom, PutRefusal, PutRefuses, PutsIn, ReadsAs, files_in}
+use Rattle.level_cache.specs.Calls.{CanBeSound, EachWith, EachWithOrWithout, GetRefusal, GetRefuses, GetsFrom, PutRefusal, PutRefuses, PutsIn, ReadsAs, files_in}
 
 -- ---- images
 
@@ -74,35 +75,24 @@ readable_opens b (inr is) = inr is.index
 -- ---- what is read where nothing was pending
 
 module _ (old : History) (start : TileMap) (quiet : IsQuiet (current old)) (stands : StandsFor (contents Bundle old) (contents Journal old) start) where
-  only_start : (b j : List ℕ) → IsImage (current old).bundle b → IsImage (current old).journal j → StandsFor b j start
-  only_start b j ib ij =
-      let bundle : b ≡ contents Bundle old = only_image (current old).bundle b quiet.bundle ib in
-      let journal : j ≡ contents Journal old = only_image (current old).journal j quiet.journal ij in
-      subst (λ (l : List ℕ). StandsFor l j start) (sym bundle) (subst (λ (l : List ℕ). StandsFor (contents Bundle old) l start) (sym journal) stands)
-
-  was_sound : EachIsSound (current old)
-  was_sound = λ b j ib ij. record { map = start; stands = only_start b j ib ij; passes = tt }
-
-  one_start : (map : TileMap) → CouldBe (current old) map → map ≡ start
-  one_start map could = one_map could.bundle could.journal map start could.stands (only_start could.bundle could.journal could.image.bundle could.image.journal)
-
   read_put : (slot : ℕ) (tile : List ℕ) (new : History) → IsPresent new → (EachIsSound (current old) → During (EachWithOrWithout slot tile (current old)) old new)
       → (map : TileMap) × (StandsFor (contents Bundle new) (contents Journal new) map × WithOrWithout slot tile start map)
   read_put slot tile new present kept =
-      let each = during_end _ old new (kept was_sound) in
+      let each = during_end _ old new (kept (was_sound (current old) start quiet stands)) in
       let s = each (contents Bundle new) (contents Journal new) (present_of Bundle new present) (present_of Journal new present) in
-      (s.map, (s.stands, subst (λ (m : TileMap). WithOrWithout slot tile m s.map) (one_start s.passes.0 s.passes.1.0) s.passes.1.1))
+      (s.map, (s.stands, subst (λ (m : TileMap). WithOrWithout slot tile m s.map) (one_start (current old) start quiet stands s.passes.0 s.passes.1.0) s.passes.1.1))
 
   read_get : (new : History) → IsPresent new → During (EachStandsForOneOf (current old)) old new → StandsFor (contents Bundle new) (contents Journal new) start
   read_get new present kept =
       let one = during_end _ old new kept (contents Bundle new) (contents Journal new) (present_of Bundle new present) (present_of Journal new present) in
-      one.same start (only_start one.bundle one.journal one.bundle_is one.journal_is)
+      one.same start (only_start (current old) start quiet stands one.bundle one.journal one.bundle_is one.journal_is)
 
 -- ---- after a recovery that was not refused
 
 -- what was recovered, and what calls that change nothing made of it
 pub record IsLeft (old mid at : History) : Type 0 where
   pub during : During (EachStandsForOneOf (current old)) old mid
+  pub files : During (EachKeptOrOnTheWay (current old)) old mid
   pub recovered : IsRecovered (contents Bundle old) (contents Journal old) (current mid)
   pub found : Recovery
   pub leaves : Leaves (contents Bundle old) (contents Journal old) found (contents Bundle mid)
@@ -114,6 +104,9 @@ module _ (old mid at : History) (left : IsLeft old mid at) where
 
   all : During (EachStandsForOneOf (current old)) old at
   all = staying _ old mid at left.during left.still
+
+  all_files : During (EachKeptOrOnTheWay (current old)) old at
+  all_files = staying _ old mid at left.files left.still
 
   reads_as : (start : TileMap) → StandsFor (contents Bundle old) (contents Journal old) start → ReadsAs start (current at)
   reads_as start stands = subst (ReadsAs start) (sym same) (record { quiet = left.recovered.quiet; closed = left.recovered.closed; stands = left.recovered.same start stands })
@@ -153,13 +146,14 @@ unrecovered fault slot tile old new present during fails =
       why = says;
     }) fault fails
 
-pub unrecovered_get : (fault : StoreFault) (slot : ℕ) (old new : History) → IsPresent new → During (EachStandsForOneOf (current old)) old new → RecoverFails fault
+pub unrecovered_get : (fault : StoreFault) (slot : ℕ) (old new : History) → IsPresent new → During (EachStandsForOneOf (current old)) old new → During (EachKeptOrOnTheWay (current old)) old new → RecoverFails fault
     → RecoverySays (contents Bundle old) (contents Journal old) (Err fault) → GetsFrom (Err fault) slot old new
-unrecovered_get fault slot old new present during fails =
+unrecovered_get fault slot old new present during files fails =
     by_recovery (λ f. RecoverySays (contents Bundle old) (contents Journal old) (Err f) → GetsFrom (Err f) slot old new)
-    (λ says. record { kept = during; gives = λ start stands. tt; none = λ start stands is. absurd cc; unchanged = λ start stands. tt; stays = λ start quiet stands. read_get old start quiet stands new present during; sound = λ start stands. tt; quiet = tt; read = tt; why = tt })
+    (λ says. record { kept = during; files = files; gives = λ start stands. tt; none = λ start stands is. absurd cc; unchanged = λ start stands. tt; stays = λ start quiet stands. read_get old start quiet stands new present during; sound = λ start stands. tt; quiet = tt; read = tt; why = tt })
     (λ place number fails says. record {
       kept = during;
+      files = files;
       gives = λ start stands. tt;
       none = λ start stands is. absurd cc;
       unchanged = λ start stands. absurd (stands_or_refused (contents Bundle old) (contents Journal old) start place number stands says);
@@ -224,6 +218,7 @@ unopened_get fault slot old mid new present left fails refuses =
     let not = not_opened fault old mid new left fails refuses in
     record {
       kept = all old mid new left;
+      files = all_files old mid new left;
       gives = λ start stands. tt;
       none = λ start stands is. absurd (not.some (let f : fault ≡ NoTile = cc in f));
       unchanged = not.ends;
@@ -416,6 +411,7 @@ get_sound Stopped slot b old new below readable said = tt
 pub got : (r : Result (List ℕ) StoreFault) (slot : ℕ) (old mid at new : History) → slot < 16384 → IsPresent new → IsLeft old mid at → Opens (contents Bundle mid) → GetSaid r slot (contents Bundle at) at new → GetsFrom r slot old new
 got r slot old mid at new below present left opens said = record {
   kept = staying _ old at new (all old mid at left) said.during;
+  files = staying _ old at new (all_files old mid at left) said.during;
   gives = λ start stands. (let s = serves old mid at left start stands in ok_map r _ _ (λ t there. ap (λ (m : TileMap). m slot) s.1 ∙ there) said.tile);
   none = λ start stands e. (let s = serves old mid at left start stands in ap (λ (m : TileMap). m slot) s.1 ∙ said.none e);
   unchanged = λ start stands. on_unless r _ (subst (ReadsAs start) (sym end) (reads_as old mid at left start stands));

@@ -1,7 +1,7 @@
 -- What a call at a place leaves of a shelf, and why it refuses.
 use Rattle.std.specs.Prelude.{◌≡◌, ◌⊎◌, ℕ, ◌+◌, ◌^◌, ◌-◌, ◌<◌, ◌≤◌, List, length, Bool, IsTrue, Option, None, Some, Result, Ok, Err, OnOk, IfOk, IfErr, IsErrOf}
 use Rattle.outside_io.specs.declared.volume.VolFile.TheVariants.{Bundle, Journal}
-use Rattle.outside_io.specs.volume.Disk.{Disk, IsDiskImage, IsQuiet}
+use Rattle.outside_io.specs.volume.Disk.{Disk, IsQuiet}
 use Rattle.outside_io.specs.volume.History.{During, History, contents, current}
 use Rattle.bundle_index.specs.Entry.{entry_at}
 use Rattle.side_journal.specs.Says.{IsOpen}
@@ -9,8 +9,9 @@ use Rattle.bundle_store.specs.declared.fault.StoreFault.{StoreFault}
 use Rattle.bundle_store.specs.declared.fault.StoreFault.TheVariants.{Device, BadBundle, BadJournal, NoTile, Beyond, TileTooLarge, EmptyTile, Full, OutOfMemory}
 use Rattle.bundle_store.specs.Causes.{OnRefusal, UnlessDevice}
 use Rattle.bundle_store.specs.Images.{EachImage, StandsFor, WithOrWithout}
-use Rattle.bundle_store.specs.Recover.{EachStandsForOneOf, RecoverFails, Refuses}
+use Rattle.bundle_store.specs.Recover.{EachKeptOrOnTheWay, EachStandsForOneOf, RecoverFails, Refuses}
 use Rattle.bundle_store.specs.Session.{GetGives, IsBeyond, OpenFails, PutFails, open_fault}
+use Rattle.bundle_store.specs.Starts.{CouldBe, EachIsSound}
 use Rattle.bundle_store.specs.Tiles.{TileMap, with_tile}
 use Rattle.opened_bundle.specs.Files.{Files, OfBundle, OfRecovered}
 use Rattle.level_cache.specs.declared.level.LevelFault.{LevelFault}
@@ -19,17 +20,6 @@ use Rattle.level_cache.specs.Places.{Corner}
 use Rattle.level_cache.specs.Shelf.{Hands, SameBeside}
 
 -- ---- images
-
--- each image is sound
-abbrev pub EachIsSound : Disk → Type 0
-EachIsSound d = EachImage (λ map. Unit {0}) d
-
--- an image of the disk stands for this map
-pub record CouldBe (d : Disk) (map : TileMap) : Type 0 where
-  pub bundle : List ℕ
-  pub journal : List ℕ
-  pub image : IsDiskImage d bundle journal
-  pub stands : StandsFor bundle journal map
 
 -- each image stands for a map that an image of an earlier disk stood for, or for that map with the
 -- tile
@@ -134,12 +124,14 @@ pub record PutsIn (result : Result (Unit {0}) StoreFault) (slot : ℕ) (tile : L
       length bundle + 4 + length tile ≤ 2 ^ 40))
   pub why : IfErr result (λ fault. PutRefuses (files_in old) fault)
 
--- A get. Each image at each moment stands for what one stood for at the start. Where what was read
--- at the start stands for a map, the answer is of that map, and unless the volume failed nothing is
--- pending then; where nothing was pending what is read stands for it after any answer.
+-- A get. Each image at each moment stands for what one stood for at the start, and is one of these,
+-- or what a recovery makes of the files that were read. Where what was read at the start stands for
+-- a map, the answer is of that map, and unless the volume failed nothing is pending then; where
+-- nothing was pending what is read stands for it after any answer.
 pub record GetsFrom (result : Result (List ℕ) StoreFault) (slot : ℕ) (old new : History) : Type 0
   where
     pub kept : During (EachStandsForOneOf (current old)) old new
+    pub files : During (EachKeptOrOnTheWay (current old)) old new
     pub gives : (start : TileMap) → StandsFor (contents Bundle old) (contents Journal old) start
         → IfOk result (λ tile. start slot ≡ Some tile)
     pub none : (start : TileMap) → StandsFor (contents Bundle old) (contents Journal old) start

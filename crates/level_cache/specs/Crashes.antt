@@ -1,13 +1,15 @@
--- Calls on a level, and crashes between and within them, by what a crash may leave of each volume.
+-- Calls on a level, and crashes and kills between and within them, by what a crash may leave of
+-- each volume.
 use Rattle.std.specs.Prelude.{◌≡◌, ◌≢◌, ◌⊎◌, ◌==◌, ◌&&◌, ℕ, List, [], ◌∷◌, Bool, true, false, Option, None, Some, IfSome, IsTrue, if◌then◌else◌}
-use Rattle.outside_io.specs.volume.Disk.{Disk, IsDiskImage, settled}
+use Rattle.outside_io.specs.volume.Disk.{Disk}
 use Rattle.outside_io.specs.volume.History.{History, current}
 use Rattle.bundle_store.specs.Images.{EachImage}
 use Rattle.bundle_store.specs.Recover.{EachStandsForOneOf}
+use Rattle.bundle_store.specs.Starts.{CouldBe, EachIsSound, IsCrashOf, IsKillOf}
 use Rattle.bundle_store.specs.Tiles.{TileMap}
 use Rattle.level_cache.specs.Places.{Corner, same_corner}
 use Rattle.level_cache.specs.Shelf.{empty_disk}
-use Rattle.level_cache.specs.Calls.{CouldBe, EachIsSound, EachWith, EachWithOrWithout}
+use Rattle.level_cache.specs.Calls.{EachWith, EachWithOrWithout}
 
 -- the disk of each base: an image of a shelf is one image of each
 abbrev pub Disks : Type 0
@@ -29,11 +31,13 @@ Tells told volumes = (base : Corner) → IfSome (volumes base) (λ v. IsTrue (to
 abbrev pub with_disk : Corner → Disk → Disks → Disks
 with_disk base d disks other = if same_corner other base then d else disks other
 
--- what is done to a level: a put, acknowledged or not, a get, or a crash
+-- what is done to a level: a put, acknowledged or not, a get, a crash of the machine, or a kill of
+-- the process alone
 pub data Step : Type 0 where
   Put : Corner → ℕ → List ℕ → Bool → Step
   Get : Step
   Crash : Step
+  Kill : Step
 
 -- each image stands for a map that one stood for before, with the tile, or also without it where
 -- the put was not acknowledged
@@ -41,21 +45,15 @@ abbrev pub EachAfterPut : Bool → ℕ → List ℕ → Disk → Disk → Type 0
 EachAfterPut true slot tile old new = EachWith slot tile old new
 EachAfterPut false slot tile old new = EachWithOrWithout slot tile old new
 
--- a crash left one image of both files, and nothing is pending on it
-pub record IsLeftOf (old new : Disk) : Type 0 where
-  pub bundle : List ℕ
-  pub journal : List ℕ
-  pub image : IsDiskImage old bundle journal
-  pub left : new
-      ≡ (let d : Disk = record { bundle = settled bundle; journal = settled journal } in d)
-
--- What a step makes of the disks. A put that did not return is one that is not acknowledged.
+-- What a step makes of the disks. A put that did not return, since a kill or a crash came within
+-- it, is one that is not acknowledged.
 abbrev pub IsStep : Step → Disks → Disks → Type 0
 IsStep (Put base slot tile acknowledged) old new =
     ((other : Corner) → other ≢ base → new other ≡ old other)
     × (EachIsSound (old base) → EachAfterPut acknowledged slot tile (old base) (new base))
 IsStep Get old new = (base : Corner) → EachStandsForOneOf (old base) (new base)
-IsStep Crash old new = (base : Corner) → IsLeftOf (old base) (new base)
+IsStep Crash old new = (base : Corner) → IsCrashOf (old base) (new base)
+IsStep Kill old new = (base : Corner) → IsKillOf (old base) (new base)
 
 -- the steps, one after the other, with the disks between them
 abbrev pub AreSteps : List (Step × Disks) → Disks → Type 0
@@ -85,6 +83,7 @@ After (Put base own tile acknowledged) at slot had Rest =
     (Rest had)
 After Get at slot had Rest = Rest had
 After Crash at slot had Rest = Rest had
+After Kill at slot had Rest = Rest had
 
 -- What a place that had this may have behind the steps: the tile that was put there last and
 -- acknowledged, or one that was put there later and was not; where none was acknowledged, also what

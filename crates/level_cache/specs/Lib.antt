@@ -4,6 +4,7 @@ pub use Rattle.outside_io.specs.volume.History
 pub use Rattle.bundle_store.specs.Causes
 pub use Rattle.bundle_store.specs.Images
 pub use Rattle.bundle_store.specs.Recover
+pub use Rattle.bundle_store.specs.Starts
 pub use Rattle.bundle_store.specs.Tiles
 pub use Rattle.opened_bundle.specs.Files
 pub mod Places

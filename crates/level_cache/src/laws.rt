@@ -113,8 +113,9 @@ pub fn gets_are_steps<H: Shelf>()
         → IsStep Get (disks_of H.Vol.history old) (disks_of H.Vol.history new) }
 {}
 
-/// Over any puts, gets and crashes each image of a shelf stands for a level in which each place has
-/// the last tile that was put there and acknowledged, or a later one that was not acknowledged.
+/// Over any puts, gets, kills and crashes each image of a shelf stands for a level in which each
+/// place has the last tile that was put there and acknowledged, or a later one that was not
+/// acknowledged.
 pub fn calls_survive_crashes()
     ensures { StepsKeepTiles }
 {}

@@ -6,7 +6,7 @@
 use level_cache::{FileShelf, MemShelf};
 use level_cli::{folder_at, serve};
 use outside_io::{StdSink, StdSource, hold_numbers};
-use program_ends::{ProcessArguments, end_without_memory};
+use program_ends::{ProcessArguments, end_without_memory, tell_files};
 use std::process::ExitCode;
 
 fn main(rt: HostRuntime) -> ExitCode {
@@ -20,7 +20,11 @@ fn main(rt: HostRuntime) -> ExitCode {
     match folder_at(alloc, &args) {
         Ok(Some(folder)) if held.is_some() => {
             let mut shelf = FileShelf::new(rt, folder);
-            serve(alloc, &args, &mut src, &mut out, &mut err, &mut shelf)
+            let code = serve(alloc, &args, &mut src, &mut out, &mut err, &mut shelf);
+            if let Some(vol) = shelf.into_last() {
+                tell_files(alloc, code, &[], &vol, &mut err);
+            }
+            code
         }
         // A folder that cannot be named: no volume is left for any bundle, so that each take fails.
         Ok(_) => match MemShelf::new(alloc, Vec::new(alloc), Vec::new(alloc)) {

@@ -42,6 +42,19 @@ pub fn serve<A: Arguments, S: Source, K: Sink, E: Sink, H: Shelf>(
     ensures volume_failed { IsVolumeCause (exit_status result ≡ 5) (exit_status result ≡ 8)
         (H.volume_faults shelf.old) (H.volume_faults shelf.new) }
 
+    // And whatever the arguments tell, a run is one of some words, unless these were not read.
+    ensures some_run { (exit_status result ≡ 1)
+        ⊎ (IsUnread (exit_status result) (source_move S.left S.faults src.old src.new)
+        (sink_move K.held K.faults out.old out.new)
+        (shelf_move H.told H.volumes shelf.old shelf.new)
+        (sink_move E.held E.faults err.old err.new)
+        ⊎ ((words : List (List ℕ)) × ((c : Command) × (IsSpelled c words
+        × OfRun H.Vol.told H.Vol.history H.Vol.faults c (exit_status result)
+        (source_move S.left S.faults src.old src.new)
+        (sink_move K.held K.faults out.old out.new)
+        (shelf_move H.told H.volumes shelf.old shelf.new)
+        (sink_move E.held E.faults err.old err.new))))) }
+
     // The rest where the texts are told.
     ensures usage { (texts : List (List ℕ)) → A.texts args.now ≡ Some texts
         → IsNoCommand (drop 2 texts) → (exit_status result ≡ 1)

@@ -6,25 +6,24 @@ use Rattle.outside_io.specs.declared.volume.VolFile.TheVariants.{Bundle, Journal
 use Rattle.outside_io.specs.streams.Faults.{FailedBetween, IsCause}
 use Rattle.outside_io.specs.volume.Disk.{Disk}
 use Rattle.outside_io.specs.volume.History.{During, History, contents, current}
-use Rattle.outside_io.proofs.VolumeLemmas.Images.{only_image}
 use Rattle.outside_io.proofs.VolumeLemmas.Moments.{during_end, during_join, during_map}
 use Rattle.bundle_index.specs.Entry.{entry_at}
 use Rattle.bundle_store.specs.declared.fault.StoreFault.{StoreFault}
 use Rattle.bundle_store.specs.declared.fault.StoreFault.TheVariants.{Device, BadBundle, BadJournal, NoTile, Beyond, TileTooLarge, EmptyTile, Full, NotEmpty, OutOfMemory, Stopped}
 use Rattle.bundle_store.specs.declared.recovery.Recovery.{Recovery}
 use Rattle.bundle_store.specs.Causes.{FaultFrom}
-use Rattle.bundle_store.specs.Images.{EachImage, StandsFor}
-use Rattle.bundle_store.specs.Recover.{EachStandsForOneOf, Leaves, OnBadJournal, RecoverFails, RecoverySays, synced_disk}
+use Rattle.bundle_store.specs.Recover.{EachKeptOrOnTheWay, EachStandsForOneOf, Leaves, OnBadJournal, RecoverFails, RecoverySays, synced_disk}
 use Rattle.bundle_store.specs.Session.{GetFails, GetRefuses, IsBeyond, OpenFails, OpenRefuses, SessionState}
-use Rattle.bundle_store.specs.Tiles.{TileMap}
+use Rattle.bundle_store.specs.Starts.{EachIsSound, KeepsStart}
 use Rattle.bundle_store.proofs.Refusals.{by_opening, by_recovery}
+use Rattle.bundle_store.proofs.Starting.{keeps_sound}
 use Rattle.program_ends.specs.Moves.{VolumeMove, volume_move}
 use Rattle.program_ends.specs.declared.stop.Stop.{Stop}
 use Rattle.program_ends.specs.declared.stop.Stop.TheVariants.{Usage, Refused, Source, Output, Volume, OutOfMemory as NoMemory}
 use Rattle.opened_bundle.specs.declared.refusal.StoreRefusal.{StoreRefusal}
 use Rattle.opened_bundle.specs.declared.refusal.StoreRefusal.TheVariants.{NoTile as MissingTile, Beyond as MissingBytes, BadBundle as NoBundle, BadJournal as NoJournal, NotEmpty as SomeBytes, Full as FullBundle}
 use Rattle.opened_bundle.specs.Files.{Files, OfBundle, files_of}
-use Rattle.opened_bundle.specs.Left.{IsLeft, IsReady, OfReading}
+use Rattle.opened_bundle.specs.Left.{IsLeft, OfReading}
 use Rattle.opened_bundle.specs.Opening.{IsOpened, OpeningStops, ReadsTile, Recovers}
 use Rattle.opened_bundle.specs.Refusals.{stop_of, tile_stop_of}
 
@@ -141,25 +140,21 @@ tile_refused told h s d slot (NotEmpty len) opened fails running refuses = absur
 
 -- ---- the volume
 
--- nothing is pending: what one of the images stands for is what stood at the start
-one_start : (start : TileMap) (told : Bool) (h : History) (d : Disk) → IsReady told h start → EachStandsForOneOf (current h) d → EachImage (λ map. map ≡ start) d
-one_start start told h d ready each = λ b j ib ij.
-    let one = each b j ib ij in
-    let bundle : one.bundle ≡ contents Bundle h = only_image (current h).bundle one.bundle ready.quiet.bundle one.bundle_is in
-    let journal : one.journal ≡ contents Journal h = only_image (current h).journal one.journal ready.quiet.journal one.journal_is in
-    let stands : StandsFor one.bundle one.journal start =
-    subst (λ (l : List ℕ). StandsFor l one.journal start) (sym bundle) (subst (λ (l : List ℕ). StandsFor (contents Bundle h) l start) (sym journal) ready.stands) in
-    record { map = start; stands = one.same start stands; passes = refl }
+-- each image of a start that is sound stands for a map that one stood for
+pub keeps_start : (P : Type 0) (vol : VolumeMove) → OfReading P vol → IsTrue vol.told.old → EachIsSound (current vol.history.old) → KeepsStart vol.history.old vol.history.new
+keeps_start P vol so tells sound = keeps_sound vol.history.old vol.history.new sound (so.images tells)
 
 pub recovering : (P : Type 0) (vol : VolumeMove) → IsCause P vol.faults.old vol.faults.new → vol.told.new ≡ vol.told.old
     → (IsTrue vol.told.old → During (EachStandsForOneOf (current vol.history.old)) vol.history.old vol.history.new)
+    → (IsTrue vol.told.old → During (EachKeptOrOnTheWay (current vol.history.old)) vol.history.old vol.history.new)
     → (IsTrue vol.told.old → (P → ⊥) → IsLeft (contents Bundle vol.history.old) (contents Journal vol.history.old) (contents Bundle vol.history.new)) → OfReading P vol
-recovering P vol cause same images left = record {
+recovering P vol cause same images files left = record {
   cause = cause;
   told = same;
   later = λ tells. (images tells).later;
   reads = left;
-  tiles = λ start ready. during_map _ _ vol.history.old vol.history.new (λ d. one_start start vol.told.old vol.history.old d ready) (images ready.tells);
+  images = images;
+  files = files;
 }
 
 -- a recovery that was refused leaves the bundle as it was
@@ -172,6 +167,12 @@ left_alone fault old new fails =
 pub failed_later : (f m n : ℕ) → f ≤ m → FailedBetween m n → FailedBetween f n
 failed_later f m n first (inl rose) = inl (omega (arith, first, rose))
 failed_later f m n first (inr full) = inr full
+
+-- what holds at each moment of a call holds on while the disk is as it was at its end
+stays_so : (Pass : Disk → Type 0) (old mid new : History) → During Pass old mid → During (λ d. d ≡ current mid) mid new → During Pass old new
+stays_so Pass old mid new first during =
+    let here = during_end Pass old mid first in
+    during_join Pass old mid new first (during_map _ Pass mid new (λ d is. subst Pass (sym is) here) during)
 
 -- a call more, which changes nothing
 pub reads_on : (P Q V : Type 0) (told : V → Bool) (history : V → History) (faults : V → ℕ) (old mid new : V) → (P → ⊥) → OfReading P (volume_move told history faults old mid)
@@ -188,11 +189,8 @@ reads_on P Q V told history faults old mid new well so cause same during = recor
   reads = λ tells _.
       let end : current (history new) ≡ current (history mid) = during_end (λ d. d ≡ current (history mid)) (history mid) (history new) (during (so.told ∙ tells)) in
       subst (λ (d : Disk). IsLeft (contents Bundle (history old)) (contents Journal (history old)) d.bundle.now) (sym end) (so.reads tells well);
-  tiles = λ start ready.
-      let first = so.tiles start ready in
-      let here = during_end (EachImage (λ map. map ≡ start)) (history old) (history mid) first in
-      during_join (EachImage (λ map. map ≡ start)) (history old) (history mid) (history new) first
-      (during_map _ _ (history mid) (history new) (λ d is. subst (EachImage (λ map. map ≡ start)) (sym is) here) (during (so.told ∙ ready.tells)));
+  images = λ tells. stays_so (EachStandsForOneOf (current (history old))) (history old) (history mid) (history new) (so.images tells) (during (so.told ∙ tells));
+  files = λ tells. stays_so (EachKeptOrOnTheWay (current (history old))) (history old) (history mid) (history new) (so.files tells) (during (so.told ∙ tells));
 }
 
 -- the same under another name of the failure
@@ -202,5 +200,6 @@ reads_as P Q vol to from so = record {
   told = so.told;
   later = so.later;
   reads = λ tells other. so.reads tells (λ p. other (to p));
-  tiles = so.tiles;
+  images = so.images;
+  files = so.files;
 }

@@ -7,8 +7,9 @@ use Rattle.outside_io.specs.volume.Disk.{Disk, IsQuiet}
 use Rattle.outside_io.specs.volume.History.{During, History, contents, current}
 use Rattle.side_journal.specs.Says.{IsOpen}
 use Rattle.bundle_store.specs.declared.recovery.Recovery.{Recovery}
-use Rattle.bundle_store.specs.Images.{EachImage, StandsFor}
-use Rattle.bundle_store.specs.Recover.{Leaves, Refuses}
+use Rattle.bundle_store.specs.Images.{StandsFor}
+use Rattle.bundle_store.specs.Recover.{EachKeptOrOnTheWay, EachStandsForOneOf, Leaves, Refuses}
+use Rattle.bundle_store.specs.Starts.{EachIsSound}
 use Rattle.bundle_store.specs.Tiles.{TileMap}
 use Rattle.program_ends.specs.Moves.{VolumeMove}
 use Rattle.program_ends.specs.declared.stop.Stop.{Stop}
@@ -16,16 +17,12 @@ use Rattle.program_ends.specs.declared.stop.Stop.TheVariants.{Volume, Refused}
 use Rattle.opened_bundle.specs.declared.refusal.StoreRefusal.{StoreRefusal}
 use Rattle.opened_bundle.specs.declared.refusal.StoreRefusal.TheVariants.{BadJournal}
 
--- The volume tells its files, nothing is pending as the run starts, and what is read then is sound
--- and stands for this map.
+-- The volume tells its files, and each image that a crash might leave as the run starts is sound.
+-- What is read then stands for this map.
 pub record IsReady (told : Bool) (h : History) (start : TileMap) : Type 0 where
   pub tells : IsTrue told
-  pub quiet : IsQuiet (current h)
+  pub sound : EachIsSound (current h)
   pub stands : StandsFor (contents Bundle h) (contents Journal h) start
-
--- at each moment each image is sound, and stands for this map
-abbrev pub KeepsStart : TileMap → History → History → Type 0
-KeepsStart start old new = During (EachImage (λ map. map ≡ start)) old new
 
 -- What a recovery leaves of the bundle: what the journal says, or the bundle as it is where a test
 -- of the journal fails.
@@ -52,13 +49,16 @@ abbrev pub Rests : {X : Type 0} → Result X (Stop StoreRefusal) → List ℕ �
 Rests (Ok x) journal d = IsShut d
 Rests (Err stop) journal d = RestsBehind stop journal d
 
--- What a call leaves of the volume that recovers the bundle, and then changes nothing. The type
--- says that the volume failed.
+-- What a call leaves of the volume that recovers the bundle, and then changes nothing: each image
+-- stands for what one stood for at the start, whatever was pending, and is one of them, or on a
+-- recovery's way. The type says that the volume failed.
 pub record OfReading (failed : Type 0) (vol : VolumeMove) : Type 0 where
   pub cause : IsCause failed vol.faults.old vol.faults.new
   pub told : vol.told.new ≡ vol.told.old
   pub later : IsTrue vol.told.old → vol.history.old.moment ≤ vol.history.new.moment
   pub reads : IsTrue vol.told.old → (failed → ⊥) → IsLeft (contents Bundle vol.history.old)
       (contents Journal vol.history.old) (contents Bundle vol.history.new)
-  pub tiles : (start : TileMap) → IsReady vol.told.old vol.history.old start
-      → KeepsStart start vol.history.old vol.history.new
+  pub images : IsTrue vol.told.old → During (EachStandsForOneOf (current vol.history.old))
+      vol.history.old vol.history.new
+  pub files : IsTrue vol.told.old → During (EachKeptOrOnTheWay (current vol.history.old))
+      vol.history.old vol.history.new

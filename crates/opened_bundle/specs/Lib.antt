@@ -2,6 +2,7 @@ pub use Rattle.outside_io.specs.streams.Faults
 pub use Rattle.outside_io.specs.volume.History
 pub use Rattle.program_ends.specs.Moves
 pub use Rattle.bundle_store.specs.Recover
+pub use Rattle.bundle_store.specs.Starts
 pub use Rattle.bundle_store.specs.Tiles.{TileMap}
 pub mod Files
 pub mod Left

@@ -1,4 +1,5 @@
 pub mod inside
 pub mod program
 pub mod streams
+pub mod Present
 pub mod volume

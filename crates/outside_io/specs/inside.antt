@@ -3,4 +3,3 @@
 pub mod Effects
 pub mod Fills
 pub mod MemVolume
-pub mod Present

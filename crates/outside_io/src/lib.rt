@@ -17,4 +17,4 @@ pub use streams::{
     Bytes, Failed, MemSink, MemSource, Numbers, Sink, Source, StdSink, StdSource, give_all,
     has_more, hold_numbers, take_all,
 };
-pub use volume::{FileVolume, MemVolume, NoVolume, Pick, Piece, Start, VolFile, Volume};
+pub use volume::{Failure, FileVolume, MemVolume, NoVolume, Pick, Piece, Start, VolFile, Volume};

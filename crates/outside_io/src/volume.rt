@@ -8,6 +8,7 @@ ghost use Rattle.outside_io.specs.volume.History.{History, IsPresent, ReadsAt, T
 
 mod backing;
 mod call_log;
+mod failures;
 mod file_volume;
 mod folder;
 mod image;
@@ -17,6 +18,7 @@ mod start;
 mod tally;
 
 use crate::Failed;
+pub use failures::Failure;
 pub use file_volume::FileVolume;
 pub use image::Pick;
 pub use mem_volume::MemVolume;

@@ -1,6 +1,6 @@
 -- What putting the updates leaves, by how it ends.
 use Rattle.std.proofs.Common.{◌≡◌, inl, inr, ℕ, ◌≤◌, List, [], length, take, Bool, Option, Ok, Err, refl, sym, ap, subst, ◌∙◌, arith}
-use Rattle.std.specs.Prelude.{IsTrue}
+use Rattle.std.specs.Prelude.{IsTrue, OnOk}
 use Rattle.std.proofs.lemmas.Bool.{cases_lt}
 use Rattle.outside_io.specs.declared.volume.VolFile.TheVariants.{Bundle, Journal}
 use Rattle.outside_io.specs.streams.Faults.{IsCause}
@@ -8,21 +8,22 @@ use Rattle.outside_io.specs.volume.Disk.{Disk, File}
 use Rattle.outside_io.specs.volume.History.{History, contents, current}
 use Rattle.outside_io.proofs.StreamLemmas.Gives.{Holds_none}
 use Rattle.bundle_store.specs.declared.tile_rec.TileRec.{TileRec}
-use Rattle.bundle_store.specs.Images.{HoldsClosed}
+use Rattle.bundle_store.specs.Build.{map_after}
+use Rattle.bundle_store.specs.Images.{EachImage, HoldsClosed}
 use Rattle.bundle_store.specs.Session.{SessionState}
-use Rattle.bundle_store.specs.Tiles.{TileMap}
-use Rattle.bundle_store.proofs.Standing.{closed_map}
+use Rattle.bundle_store.specs.Tiles.{TileMap, tiles}
 use Rattle.bundle_lines.specs.declared.stop.PutStop.TheVariants.{Output as PutOutput, Volume as PutVolume, Full as PutFull}
 use Rattle.bundle_lines.specs.Gave.{PutEnd, PutGave, UnlessVolume as UnlessPutVolume}
 use Rattle.bundle_lines.specs.Lines.{put_lines}
-use Rattle.bundle_lines.specs.Puts.{AreMarks, EndsByRoom, HaveRoom, IsFirstFull, KeepsFullLength, PutsKeep, PutsLeave, bundle_after_puts}
-use Rattle.bundle_lines.proofs.Marked.{no_marks, puts_join}
+use Rattle.bundle_lines.specs.Puts.{AreMarks, EndsByRoom, HaveRoom, IsFirstFull, KeepsFullLength, PutsLeave, bundle_after_puts}
+use Rattle.bundle_lines.proofs.Kept.{left_map, puts_from}
+use Rattle.bundle_lines.proofs.Marked.{no_marks}
 use Rattle.opened_bundle.specs.Files.{Files, files_of}
 use Rattle.opened_bundle.specs.Left.{OfReading, RestsBehind as RestsUnopened}
 use Rattle.opened_bundle.specs.Opening.{IsOpened, OpeningStops}
 use Rattle.opened_bundle.specs.declared.refusal.StoreRefusal.{StoreRefusal}
 use Rattle.opened_bundle.specs.declared.refusal.StoreRefusal.TheVariants.{NoTile, Beyond, BadBundle, BadJournal, NotEmpty, Full}
-use Rattle.opened_bundle.proofs.BundleOpening.{failed_later, of_bundle}
+use Rattle.opened_bundle.proofs.BundleOpening.{failed_later, keeps_start, of_bundle}
 use Rattle.opened_bundle.proofs.Resting.{shut_held}
 use Rattle.program_ends.specs.Moves.{Change, SinkMove, VolumeMove, sink_move, volume_move}
 use Rattle.program_ends.specs.Stop.{Gained}
@@ -74,7 +75,7 @@ unless_same Volume P so = tt
 unless_same OutOfMemory P so = so (λ is. cc)
 unless_same (Refused refusal) P so = so (λ is. cc)
 
-rests_store : (stop : Stop StoreRefusal) (journal : List ℕ) (d : Disk) → RestsUnopened stop journal d → Rests (Err (with_store stop)) journal d
+pub rests_store : (stop : Stop StoreRefusal) (journal : List ℕ) (d : Disk) → RestsUnopened stop journal d → Rests (Err (with_store stop)) journal d
 rests_store Usage journal d rests = rests
 rests_store Source journal d rests = rests
 rests_store Output journal d rests = rests
@@ -96,8 +97,9 @@ unopened_volume us stop failed vol to from so rests = record {
   marks_are = λ tells. no_marks vol.history.old.moment vol.history.new.moment;
   reads = λ tells. unless_same stop _ (λ other. (contents Bundle vol.history.new, (so.reads tells (λ f. other (to f)), refl)));
   rests = λ tells. rests_store stop (contents Journal vol.history.old) (current vol.history.new) (rests tells);
-  tiles = λ start ready. keeps_none us start vol.told.old vol.history.old vol.history.new ready (so.tiles start ready);
-  none = λ stops start ready. so.tiles start ready;
+  tiles = λ start ready. keeps_none us start vol.told.old vol.history.old vol.history.new ready (keeps_start failed vol so ready.tells ready.sound);
+  done = λ t start stands. tt;
+  none = λ stops start ready. keeps_start failed vol so ready.tells ready.sound;
 }
 
 pub unopened_output : (us : List TileRec) (files : Option Files) (K : Type 0) (held : K → Option (List ℕ)) (faults : K → ℕ) (out : K) (stop : Stop StoreRefusal) → OpeningStops files stop
@@ -168,6 +170,12 @@ unless_put (Err PutOutput) P Q so p = so p
 unless_put (Err PutVolume) P Q so p = tt
 unless_put (Err (PutFull len)) P Q so p = so p
 
+ok_put : (r : PutEnd) (P Q : Type 0) → (P → Q) → UnlessPutVolume r P → OnOk (put_end_of r) Q
+ok_put (Ok x) P Q so p = so p
+ok_put (Err PutOutput) P Q so p = tt
+ok_put (Err PutVolume) P Q so p = tt
+ok_put (Err (PutFull len)) P Q so p = tt
+
 rests_put : (r : PutEnd) (bundle journal : List ℕ) (d : Disk) → UnlessPutVolume r (HoldsClosed bundle d) → Rests (put_end_of r) journal d
 rests_put (Ok x) bundle journal d held = shut_held bundle d held
 rests_put (Err PutOutput) bundle journal d held = shut_held bundle d held
@@ -188,16 +196,18 @@ put_all_volume failed V told history faults vol mid new s us marks r well so ope
   rests = λ t. rests_put r _ (contents Journal (history vol)) (current (history new)) (leaves (so.told ∙ t)).reads;
   tiles = λ start ready.
       let o = opened ready.tells in
-      let stands = o.recovered.same start ready.stands in
-      let map = closed_map (contents Bundle (history mid)) (contents Journal (history mid)) stands.state start o.recovered.closed stands.says stands.shows in
       let t = so.told ∙ ready.tells in (
         contents Bundle (history mid),
         (
           inl (o.done, o.leaves),
           (leaves t).groups,
-          puts_join (contents Bundle (history mid)) start us marks (history vol) (history mid) (history new) (leaves t).marks_are (so.tiles start ready)
-              (subst (λ (m : TileMap). PutsKeep (contents Bundle (history mid)) m us marks (history mid) (history new)) (sym map.1) ((leaves t).images map.0)),
+          puts_from us marks start (history vol) (history mid) (history new) ready.stands (keeps_start failed (volume_move told history faults vol mid) so ready.tells ready.sound)
+              o.recovered (leaves t).marks_are (leaves t).images,
         ),
       );
+  done = λ t start stands.
+      let map = left_map start (history vol) (history mid) stands (opened t).recovered in
+      ok_put r (EachImage (λ m. m ≡ map_after (tiles (contents Bundle (history mid))) (take (length marks) us)) (current (history new))) (EachImage (λ m. m ≡ map_after start (take (length marks) us)) (current (history new)))
+      (λ each. subst (λ (from : TileMap). EachImage (λ m. m ≡ map_after from (take (length marks) us)) (current (history new))) (sym map.1) each) ((leaves (so.told ∙ t)).tiles_are map.0);
   none = λ stops. absurd (never_unopened r stops);
 }

@@ -6,7 +6,8 @@ use Rattle.program_ends.specs.Stop.{IsRefusalStatus}
 use Rattle.program_ends.specs.declared.stop.Stop.{Stop}
 use Rattle.program_ends.specs.declared.stop.Stop.TheVariants.{Usage, Source}
 use Rattle.opened_bundle.specs.Files.{Files}
-use Rattle.opened_bundle.specs.Left.{IsReady, KeepsStart}
+use Rattle.opened_bundle.specs.Left.{IsReady}
+use Rattle.bundle_store.specs.Starts.{KeepsStart}
 use Rattle.outside_io.specs.volume.History.{History}
 use Rattle.bundle_store.specs.declared.tile_rec.TileRec.{TileRec}
 use Rattle.bundle_store.specs.Tiles.{TileMap}
@@ -17,7 +18,7 @@ use Rattle.overview_cli.specs.Taking.{Taken, TakesOverview}
 use Rattle.overview_cli.specs.declared.refusal.Refusal.{Refusal}
 use Rattle.overview_cli.specs.declared.refusal.Refusal.TheVariants.{BadTile, Unlike, DepthNeedsV4, TileTooLarge, KeptTooMuch, Store}
 use Rattle.overview_cli.specs.declared.words.Command.{Command}
-use Rattle.overview_cli.proofs.Keeping.{stays}
+use Rattle.opened_bundle.proofs.Standing.{idle_keeps}
 
 pub own : (r : Refusal) → IsRefusalStatus (refusal_status r)
 own (BadTile row col fault) = inl refl
@@ -50,8 +51,8 @@ never_source = never Source (record { taking = λ c files takes. takes; putting 
 -- ---- crashes
 
 -- a volume that is as it was keeps what it stood for
-pub kept_same : (to : VolumeMove) (start : TileMap) → (to.same → to.history.new ≡ to.history.old) → IsReady to.told.old to.history.old start → to.same → KeepsStart start to.history.old to.history.new
-kept_same to start unmoved ready same = subst (λ (h : History). KeepsStart start to.history.old h) (sym (unmoved same)) (stays start to.told.old to.history.old ready)
+pub kept_same : (to : VolumeMove) (start : TileMap) → (to.same → to.history.new ≡ to.history.old) → IsReady to.told.old to.history.old start → to.same → KeepsStart to.history.old to.history.new
+kept_same to start unmoved ready same = subst (λ (h : History). KeepsStart to.history.old h) (sym (unmoved same)) (idle_keeps to.history.old ready.sound)
 
 pub to_keeps : (c : Command) (end : End) (marks : List ℕ) (from to : VolumeMove) (out : SinkMove) (start : TileMap) → OfCommand c end marks from to out → (to.same → to.history.new ≡ to.history.old) → IsReady to.told.old to.history.old start
     → KeepsOverview c (files_at from) marks start to.history.old to.history.new

@@ -1,5 +1,5 @@
 -- What reading the first bundle comes to, as the program's stop.
-use Rattle.std.proofs.Common.{◌≡◌, inl, inr, ℕ, Bool, Option, Result, Ok, Err, refl}
+use Rattle.std.proofs.Common.{◌≡◌, inl, inr, ℕ, List, Bool, Option, Result, Ok, Err, refl}
 use Rattle.std.specs.Prelude.{IsTrue, Vec}
 use Rattle.std.specs.declared.alloc.Global.{Global}
 use Rattle.outside_io.specs.declared.volume.VolFile.TheVariants.{Bundle, Journal}
@@ -10,6 +10,7 @@ use Rattle.lerc_header.specs.Written.{step_of}
 use Rattle.bundle_store.specs.declared.tile_rec.TileRec.{TileRec}
 use Rattle.bundle_store.specs.Session.{SessionState}
 use Rattle.opened_bundle.specs.Files.{Files, files_of}
+use Rattle.opened_bundle.specs.Left.{IsShut}
 use Rattle.opened_bundle.specs.Opening.{IsOpened, OpeningStops}
 use Rattle.opened_bundle.specs.declared.refusal.StoreRefusal.{StoreRefusal}
 use Rattle.opened_bundle.proofs.BundleOpening.{of_bundle}
@@ -20,6 +21,7 @@ use Rattle.overview_updates.specs.declared.stop.OverviewStop.TheVariants as foun
 use Rattle.program_ends.specs.declared.stop.Stop.{Stop}
 use Rattle.program_ends.specs.declared.stop.Stop.TheVariants.{Usage, Source, Output, Volume, OutOfMemory, Refused}
 use Rattle.overview_cli.specs.Names.{overview_stop_of, with_store}
+use Rattle.overview_cli.specs.Putting.{Rests}
 use Rattle.overview_cli.specs.Taking.{IsFromRefusal, Taken, TakesOverview}
 use Rattle.overview_cli.specs.declared.words.Command.{Command}
 
@@ -47,6 +49,17 @@ refused c told h s d (found.TileTooLarge at len) opened fails tells = told_of c 
 refused c told h s d (found.KeptTooMuch at) opened fails tells = told_of c told h s d (found.KeptTooMuch at) opened fails tells
 refused c told h s d found.Volume opened fails tells = tt
 refused c told h s d found.OutOfMemory opened fails tells = tt
+
+-- a bundle that was opened is shut, whatever its overview comes to
+pub rests_overview : (why : OverviewStop) (journal : List ℕ) (d : Disk) → IsShut d → Rests (Err (overview_stop_of why)) journal d
+rests_overview (found.Beyond slot entry got) journal d shut = shut
+rests_overview (found.BadTile slot fault) journal d shut = shut
+rests_overview (found.Unlike slot) journal d shut = shut
+rests_overview (found.DepthNeedsV4 slot) journal d shut = shut
+rests_overview (found.TileTooLarge at len) journal d shut = shut
+rests_overview (found.KeptTooMuch at) journal d shut = shut
+rests_overview found.Volume journal d shut = tt
+rests_overview found.OutOfMemory journal d shut = shut
 
 -- the updates
 pub taken : (c : Command) (told : Bool) (h : History) (s : SessionState) (d : Disk) (updates : Vec TileRec Global) → (IsTrue told → IsOpened s (contents Bundle h) (contents Journal h) d)

@@ -1,22 +1,22 @@
 -- What a run that ends well leaves, and what the output and the second bundle are behind others.
-use Rattle.std.proofs.Common.{◌≡◌, ◌⊎◌, inl, inr, ℕ, ◌+◌, ◌≤◌, List, [], ◌∷◌, length, Option, Ok, Err, refl, sym, ap, subst, ◌∙◌, arith}
+use Rattle.std.proofs.Common.{◌≡◌, ℕ, List, [], ◌∷◌, length, take, Option, Ok, Err, refl, sym, subst, ◌∙◌, arith}
+use Rattle.std.specs.Prelude.{OnOk}
 use Rattle.std.proofs.lemmas.List.{take_all}
 use Rattle.outside_io.specs.declared.volume.VolFile.TheVariants.{Journal}
 use Rattle.outside_io.specs.streams.Sink.{Holds}
-use Rattle.outside_io.specs.volume.History.{History, contents, current}
+use Rattle.outside_io.specs.volume.History.{contents, current}
 use Rattle.bundle_store.specs.declared.tile_rec.TileRec.{TileRec}
 use Rattle.bundle_store.specs.Build.{map_after}
 use Rattle.bundle_store.specs.Images.{EachImage}
 use Rattle.bundle_store.specs.Tiles.{TileMap}
-use Rattle.bundle_lines.specs.Puts.{AreMarks, IsAfterSome, IsNextGroup, marked}
-use Rattle.bundle_lines.proofs.Marked.{marked_all}
 use Rattle.opened_bundle.specs.Files.{Files}
-use Rattle.opened_bundle.specs.Left.{IsReady, KeepsStart}
+use Rattle.opened_bundle.specs.Left.{IsReady}
+use Rattle.bundle_store.specs.Starts.{KeepsStart}
 use Rattle.program_ends.specs.Moves.{SinkMove, VolumeMove}
 use Rattle.program_ends.specs.Stop.{Gained}
 use Rattle.program_ends.specs.declared.stop.Stop.TheVariants.{Usage, Source, Output, Volume, OutOfMemory, Refused}
 use Rattle.overview_cli.specs.Names.{End, status_at}
-use Rattle.overview_cli.specs.Putting.{KeepsPuts, PutsAnswer, Rests, StopsUnopened}
+use Rattle.overview_cli.specs.Putting.{PutsAnswer, Rests, StopsUnopened}
 use Rattle.overview_cli.specs.Run.{Ends, OfCommand, PutsOverview, files_at}
 use Rattle.overview_cli.specs.Taking.{Taken, TakesOverview}
 use Rattle.overview_cli.specs.declared.refusal.Refusal.{Refusal}
@@ -24,20 +24,7 @@ use Rattle.overview_cli.specs.declared.refusal.Refusal.TheVariants.{BadTile, Unl
 use Rattle.overview_cli.specs.declared.words.Command.{Command}
 use Rattle.overview_cli.proofs.Runs.{kept_same}
 
--- ---- at the end each update has a mark
-
-count_all : (b : List ℕ) (us : List TileRec) (marks : List ℕ) (t count : ℕ) → marked marks t ≡ length us → (count ≡ marked marks t) ⊎ ((n : ℕ) × (IsNextGroup b us (marked marks t) n × (count ≡ marked marks t + n))) → length us ≤ count
-count_all b us marks t count all (inl is) = omega (arith, all, is)
-count_all b us marks t count all (inr (n, (group, is))) = omega (arith, all, is)
-
-all_put : (b : List ℕ) (us : List TileRec) (start map : TileMap) (marks : List ℕ) (t : ℕ) → marked marks t ≡ length us → IsAfterSome b start us marks t map → map ≡ map_after start us
-all_put b us start map marks t all after = after.map_is ∙ ap (map_after start) (take_all after.count us (count_all b us marks t after.count all after.count_is))
-
-stands_all : (us : List TileRec) (marks : List ℕ) (start : TileMap) (old new : History) → length marks ≡ length us → AreMarks marks old.moment new.moment → KeepsPuts us marks start old new → EachImage (λ map. map ≡ map_after start us) (current new)
-stands_all us marks start old new all are (b, (left, whole, keep)) = λ c j ic ij.
-    let every : marked marks new.moment ≡ length us = marked_all marks new.moment (λ i less. (are.within i less).1) ∙ all in
-    let one = keep.each new.moment keep.later (omega arith) c j ic ij in
-    record { map = one.map; stands = one.stands; passes = all_put b us start one.map marks new.moment every one.passes }
+-- ---- status 0
 
 pub puts_well : (c : Command) (end : End) (marks : List ℕ) (from to : VolumeMove) (out : SinkMove) → OfCommand c end marks from to out → end ≡ Ok tt → PutsOverview c marks from to out
 puts_well c end marks from to out did is = by did.taken did.takes did.ends
@@ -53,7 +40,10 @@ puts_well c end marks from to out did is = by did.taken did.takes did.ends
           near = takes.1;
           all = answer.0;
           lines = subst (λ (o : List ℕ). Holds out.held.old out.held.new o) answer.2 gained;
-          stands = λ start ready. stands_all updates.items marks start to.history.old to.history.new answer.0 (puts.marks_are ready.tells) (puts.tiles start ready);
+          stands = λ told start is_start.
+              let Left : List TileRec → Type 0 = λ us. EachImage (λ map. map ≡ map_after start us) (current to.history.new) in
+              let each : Left (take (length marks) updates.items) = subst (λ (e : End). OnOk e (Left (take (length marks) updates.items))) is (puts.done told start is_start) in
+              subst Left (take_all (length marks) updates.items (omega (arith, answer.0))) each;
           shut = λ told. (let rests : Rests (Ok tt) (contents Journal to.history.old) (current to.history.new) = subst (λ (e : End). Rests e (contents Journal to.history.old) (current to.history.new)) is (puts.rests told) in rests);
         }
 
@@ -91,7 +81,7 @@ untouched c end marks from to out did two = by did.taken did.ends
 pub record Wanted (marks : List ℕ) (to : VolumeMove) (out : SinkMove) : Type 0 where
   pub output : out.same
   pub none : marks ≡ []
-  pub keeps : (start : TileMap) → IsReady to.told.old to.history.old start → KeepsStart start to.history.old to.history.new
+  pub keeps : (start : TileMap) → IsReady to.told.old to.history.old start → KeepsStart to.history.old to.history.new
 
 no_marks : (marks : List ℕ) → length marks ≡ 0 → marks ≡ []
 no_marks [] none = refl

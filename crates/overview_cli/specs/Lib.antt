@@ -5,6 +5,7 @@ pub use Rattle.outside_io.specs.volume.History
 pub use Rattle.lerc_header.specs.Written
 pub use Rattle.bundle_store.specs.Build
 pub use Rattle.bundle_store.specs.Images
+pub use Rattle.bundle_store.specs.Starts
 pub use Rattle.bundle_store.specs.Tiles
 pub use Rattle.bundle_lines.specs.Lines
 pub use Rattle.bundle_lines.specs.Puts

@@ -1,15 +1,18 @@
 -- What putting the updates into the second bundle comes to, and what it leaves of it.
-use Rattle.std.specs.Prelude.{◌≡◌, ℕ, ◌<◌, ◌≤◌, List, [], length, take, Option, IsTrue, Ok, Err}
+use Rattle.std.specs.Prelude.{◌≡◌, ℕ, ◌<◌, ◌≤◌, List, [], length, take, Option, IsTrue, OnOk, Ok, Err}
 use Rattle.outside_io.specs.declared.volume.VolFile.TheVariants.{Bundle, Journal}
 use Rattle.outside_io.specs.streams.Faults.{IsCause}
 use Rattle.outside_io.specs.volume.Disk.{Disk, IsQuiet}
 use Rattle.outside_io.specs.volume.History.{History, contents, current}
 use Rattle.bundle_store.specs.declared.tile_rec.TileRec.{TileRec}
+use Rattle.bundle_store.specs.Build.{map_after}
+use Rattle.bundle_store.specs.Images.{EachImage, StandsFor}
+use Rattle.bundle_store.specs.Starts.{KeepsStart}
 use Rattle.bundle_store.specs.Tiles.{TileMap}
 use Rattle.bundle_lines.specs.Lines.{put_lines}
-use Rattle.bundle_lines.specs.Puts.{AreMarks, AreWhole, HaveRoom, IsFirstFull, LeavesNoRoom, PutsKeep, bundle_after_puts}
+use Rattle.bundle_lines.specs.Puts.{AreMarks, AreWhole, HaveRoom, IsFirstFull, LeavesNoRoom, PutsKeepFrom, bundle_after_puts}
 use Rattle.opened_bundle.specs.Files.{Files, OfBundle}
-use Rattle.opened_bundle.specs.Left.{IsLeft, IsReady, IsShut, KeepsStart}
+use Rattle.opened_bundle.specs.Left.{IsLeft, IsReady, IsShut}
 use Rattle.opened_bundle.specs.Refusals.{IsOpening}
 use Rattle.opened_bundle.specs.declared.refusal.StoreRefusal.{StoreRefusal}
 use Rattle.opened_bundle.specs.declared.refusal.StoreRefusal.TheVariants.{BadJournal, Full}
@@ -74,13 +77,13 @@ Rests (Err (Refused (Store (BadJournal place found)))) journal d =
     IsQuiet d × (d.journal.now ≡ journal)
 Rests end journal d = IsShut d
 
--- At each moment each image that a crash may leave is sound, and stands for the tiles of the start
--- with the first few updates done: those with a mark by then, or also the next group of up to 64,
--- whole.
+-- At each moment each image that a crash may leave is sound, and stands for a map that one stood
+-- for at the start, while no update has a mark; or for the tiles that were read at the start with
+-- the first few updates done: those with a mark by then, or also the next group of up to 64, whole.
 abbrev pub KeepsPuts : List TileRec → List ℕ → TileMap → History → History → Type 0
 KeepsPuts updates marks start old new = (bundle : List ℕ)
     × (IsLeft (contents Bundle old) (contents Journal old) bundle
-    × AreWhole bundle updates marks × PutsKeep bundle start updates marks old new)
+    × AreWhole bundle updates marks × PutsKeepFrom bundle start updates marks old new)
 
 -- what is left of the volume that is put into
 pub record OfPuts (updates : List TileRec) (end : End) (marks : List ℕ) (vol : VolumeMove) : Type 0
@@ -98,7 +101,12 @@ pub record OfPuts (updates : List TileRec) (end : End) (marks : List ℕ) (vol :
         → Rests end (contents Journal vol.history.old) (current vol.history.new)
     pub tiles : (start : TileMap) → IsReady vol.told.old vol.history.old start
         → KeepsPuts updates marks start vol.history.old vol.history.new
+    -- whatever was pending at the start
+    pub done : IsTrue vol.told.old → (start : TileMap)
+        → StandsFor (contents Bundle vol.history.old) (contents Journal vol.history.old) start
+        → OnOk end (EachImage (λ map. map ≡ map_after start (take (length marks) updates))
+        (current vol.history.new))
     -- no update is done where the bundle was not opened
     pub none : StopsUnopened end → (start : TileMap)
         → IsReady vol.told.old vol.history.old start
-        → KeepsStart start vol.history.old vol.history.new
+        → KeepsStart vol.history.old vol.history.new

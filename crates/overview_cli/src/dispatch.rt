@@ -3,18 +3,21 @@
 ghost use Rattle.std.specs.Prelude.{◌≡◌, ◌≢◌, ◌⊎◌, ◌↔◌, ◌≤◌, ◌<◌, List, [], Err, IfOk, IsTrue, length};
 ghost use Rattle.outside_io.specs.program.Line.{GivesLine};
 ghost use Rattle.outside_io.specs.streams.Faults.{IsCause};
+ghost use Rattle.outside_io.specs.declared.volume.VolFile.TheVariants.{Journal};
+ghost use Rattle.outside_io.specs.volume.History.{contents, current};
 ghost use Rattle.bundle_store.specs.Build.{EachFits};
 ghost use Rattle.bundle_store.specs.Tiles.{TileMap};
 ghost use Rattle.bundle_store.specs.declared.tile_rec.TileRec.{TileRec};
 ghost use Rattle.opened_bundle.specs.Files.{files_of};
-ghost use Rattle.opened_bundle.specs.Left.{IsReady, KeepsStart, OfReading};
+ghost use Rattle.opened_bundle.specs.Left.{IsReady, OfReading};
+ghost use Rattle.bundle_store.specs.Starts.{EachIsSound, KeepsStart};
 ghost use Rattle.opened_bundle.specs.declared.refusal.StoreRefusal.{StoreRefusal};
 ghost use Rattle.program_ends.specs.Moves.{sink_move, volume_move};
 ghost use Rattle.program_ends.specs.declared.stop.Stop.{Stop};
 ghost use Rattle.overview_cli.specs.Commands.{IsNoCommand, IsSpelled};
 ghost use Rattle.overview_cli.specs.Names.{line_of, put_end_of, refusal_status, status_of};
 ghost use Rattle.overview_cli.specs.Putting.{IsToRefusal, OfOutput, OfPuts};
-ghost use Rattle.overview_cli.specs.Run.{IsVolumeCause, KeepsOverview, OfCommand, OfRun, PutsOverview, Refuses};
+ghost use Rattle.overview_cli.specs.Run.{IsVolumeCause, KeepsOverview, OfCommand, OfRun, PutsOverview, Refuses, RestsTaken};
 ghost use Rattle.overview_cli.specs.Taking.{IsFromRefusal, TakesOverview, UpdatesOf};
 ghost use Rattle.overview_cli.specs.declared.refusal.Refusal.{Refusal};
 ghost use Rattle.overview_cli.specs.declared.words.Command.{Command};
@@ -49,6 +52,8 @@ fn take_overview<R: Threads + Sync, V: Volume, G: Gate>(
     ensures none { marks.new.marks ≡ [] }
     ensures reading { OfReading (result ≡ Err Stop.Volume)
         (volume_move V.told V.history V.faults from.old from.new) }
+    ensures rests { IsTrue (V.told from.old) → RestsTaken result
+        (contents Journal (V.history from.old)) (current (V.history from.new)) }
 {
     let session = match open_bundle(machine.alloc, from) {
         Ok(session) => session,
@@ -271,12 +276,14 @@ pub fn run_overview<R: Threads + Sync, K: Sink, E: Sink, V: Volume, W: Volume, G
         (files_of (W.told to.old) (W.history to.old)) refusal)
         → result.status ≢ 4 → result.status ≢ 5 → result.status ≢ 6 → result.status ≡ 0 }
 
-    // At each moment, whatever the answer: `from` stands for the tiles of its start; `to` for those
-    // of its start with the first few updates done: those with a mark by then, or also the next
-    // group of up to 64, whole. On status 2 `to` is as it was, and on status 6 no update is done.
-    ensures from_keeps { (c : Command) → IsSpelled c words.now → (start : TileMap)
-        → IsReady (V.told from.old) (V.history from.old) start
-        → KeepsStart start (V.history from.old) (V.history from.new) }
+    // At each moment, whatever the answer, and whatever is pending as the run starts, where each
+    // image that a crash might leave is sound then: each image of `from` stands for what one stood
+    // for at its start; each of `to` for that, while no update has a mark, or for what was read
+    // there with the first few updates done: those with a mark by then, or also the next group of
+    // up to 64, whole. On status 2 `to` is as it was, and on status 6 no update is done.
+    ensures from_keeps { (c : Command) → IsSpelled c words.now → IsTrue (V.told from.old)
+        → EachIsSound (current (V.history from.old))
+        → KeepsStart (V.history from.old) (V.history from.new) }
     ensures to_keeps { (c : Command) → IsSpelled c words.now → (start : TileMap)
         → IsReady (W.told to.old) (W.history to.old) start
         → KeepsOverview c (files_of (V.told from.old) (V.history from.old)) result.marks.marks
@@ -286,7 +293,7 @@ pub fn run_overview<R: Threads + Sync, K: Sink, E: Sink, V: Volume, W: Volume, G
     ensures wanted { (c : Command) → IsSpelled c words.now → result.status ≡ 6
         → (out.new ≡ out.old) × (result.marks.marks ≡ [])
         × ((start : TileMap) → IsReady (W.told to.old) (W.history to.old) start
-        → KeepsStart start (W.history to.old) (W.history to.new)) }
+        → KeepsStart (W.history to.old) (W.history to.new)) }
 
     // One line tells of each stop.
     ensures no_line { result.status ≡ 0 → err.new ≡ err.old }

@@ -3,11 +3,12 @@
 ghost use Rattle.std.specs.Prelude.{◌≡◌, ◌⊎◌, ℕ, List, Some, drop};
 ghost use Rattle.std.specs.Process.{exit_status};
 ghost use Rattle.outside_io.specs.program.Line.{GivesLine};
+ghost use Rattle.outside_io.specs.streams.Faults.{IsCause};
 ghost use Rattle.program_ends.specs.Moves.{sink_move, volume_move};
 ghost use Rattle.program_ends.specs.declared.stop.Stop.{Stop};
 ghost use Rattle.overview_cli.specs.Commands.{IsNoCommand, IsSpelled};
 ghost use Rattle.overview_cli.specs.Names.{line_of};
-ghost use Rattle.overview_cli.specs.Run.{IsUnread, OfRun};
+ghost use Rattle.overview_cli.specs.Run.{IsUnread, IsVolumeCause, OfRun};
 ghost use Rattle.overview_cli.specs.declared.words.Command.{Command};
 
 use crate::dispatch::run_overview;
@@ -31,6 +32,27 @@ pub fn serve<R: Threads + Sync, A: Arguments, K: Sink, E: Sink, V: Volume, W: Vo
     to: &mut W,
     gate: &G,
 ) -> ExitCode
+    // An object that fails gives its status, and nothing else gives it.
+    ensures output_failed { IsCause (exit_status result ≡ 4) (K.faults out.old) (K.faults out.new) }
+    ensures volume_failed { IsVolumeCause (exit_status result ≡ 5)
+        (record { old = V.faults from.old; new = V.faults from.new })
+        (record { old = W.faults to.old; new = W.faults to.new }) }
+
+    // And whatever the arguments tell, a run is one of some words, unless these were not read.
+    ensures some_run { (exit_status result ≡ 1)
+        ⊎ (IsUnread (exit_status result)
+        (volume_move V.told V.history V.faults from.old from.new)
+        (volume_move W.told W.history W.faults to.old to.new)
+        (sink_move K.held K.faults out.old out.new)
+        (sink_move E.held E.faults err.old err.new)
+        ⊎ ((words : List (List ℕ)) × ((c : Command) × (IsSpelled c words
+        × ((marks : List ℕ) × OfRun c (exit_status result) marks
+        (volume_move V.told V.history V.faults from.old from.new)
+        (volume_move W.told W.history W.faults to.old to.new)
+        (sink_move K.held K.faults out.old out.new)
+        (sink_move E.held E.faults err.old err.new)))))) }
+
+    // The rest where the texts are told.
     ensures usage { (texts : List (List ℕ)) → A.texts args.now ≡ Some texts
         → IsNoCommand (drop 3 texts) → (exit_status result ≡ 1)
         ⊎ IsUnread (exit_status result)

@@ -1,12 +1,12 @@
 -- Amounts that come to totals.
-use Rattle.std.proofs.Common.{◌≡◌, ◌≢◌, ℕ, ℤ, zero, suc, ◌+◌, ◌-◌, ◌*◌, ◌<◌, ◌≤◌, true, false, cond, List, length, get_or, refl, sym, ap, ◌∙◌, subst, arith, ⊎_elim}
+use Rattle.std.proofs.Common.{◌≡◌, ◌≢◌, ℕ, ℤ, zero, suc, ◌+◌, ◌-◌, ◌*◌, ◌/◌, ◌%◌, ◌<◌, ◌≤◌, true, false, cond, List, length, get_or, refl, sym, ap, ◌∙◌, subst, arith, ⊎_elim}
 use Rattle.std.specs.Prelude.{pos, ◌+ℤ◌, ◌≤ℤ◌, nat_eq}
 use Rattle.std.proofs.Math.ListN.{set}
 use Rattle.std.proofs.lemmas.List.{get_or-set_same, get_or-set_other}
 use Rattle.std.proofs.lemmas.Int.{ints}
 use Rattle.std.proofs.lemmas.Nat.{same_from_place}
 use Rattle.std.proofs.lemmas.Bool.{eq-eqb, ne_eqb, cases_eq}
-use Rattle.overview_tiles.specs.inside.Comes.{GrowsCounts, GrowsSums, IsWithin, comes}
+use Rattle.overview_tiles.specs.inside.Comes.{GrowsCounts, GrowsSums, IsWithin, comes, in_row}
 
 pub comes_none : (to : ℕ → ℕ) (a : ℕ → ℤ) (t : ℕ) → comes to a t 0 ≡ pos 0
 unfolding comes
@@ -50,6 +50,9 @@ comes_join to a t n (suc m) =
     let left = suc_next to a t (n + m) in
     let right = suc_next (λ i. to (n + i)) (λ i. a (n + i)) t m in
     ap (comes to a t) (let e : n + suc m ≡ suc (n + m) = omega arith in e) ∙ (let e : comes to a t (suc (n + m)) ≡ comes to a t n +ℤ comes (λ i. to (n + i)) (λ i. a (n + i)) t (suc m) = omega (arith, ints, before, left, right) in e)
+
+comes_two : (to : ℕ → ℕ) (a : ℕ → ℤ) (t n : ℕ) → comes to a t (n + 2) ≡ (comes to a t n +ℤ brings to a t n) +ℤ brings to a t (n + 1)
+comes_two to a t n = ap (comes to a t) (let e : n + 2 ≡ n + 1 + 1 = omega arith in e) ∙ comes_next to a t (n + 1) ∙ ap (λ z. z +ℤ brings to a t (n + 1)) (comes_next to a t n)
 
 brings_up : (to : ℕ → ℕ) (a : ℕ → ℤ) (t n : ℕ) → pos 0 ≤ℤ a n → pos 0 ≤ℤ brings to a t n
 brings_up to a t n h = elim (nat_eq (to n) t) as (λ b. pos 0 ≤ℤ cond b (a n) (pos 0)) [ true ↦ h | false ↦ omega (arith, ints) ]
@@ -106,6 +109,28 @@ counts_step to a n k v old new place below size one is h = record {
       (cases_eq t k);
 }
 
+-- two neighbouring amounts that come to one count
+pub counts_pair : (to : ℕ → ℕ) (a : ℕ → ℤ) (n k v : ℕ) (old new : List ℕ) → to n ≡ k → to (n + 1) ≡ k → k < length new → pos v ≡ (pos (get_or new k 0) +ℤ a n) +ℤ a (n + 1) → GrowsCounts to a n old new
+    → GrowsCounts to a (n + 2) old (set new k v)
+counts_pair to a n k v old new place beside below is h = record {
+  each = λ t less.
+      let next = comes_two to a t n in
+      let before = h.each t less in
+      ⊎_elim
+      (λ (same : t ≡ k).
+      let here : get_or (set new k v) t 0 ≡ v = ap (λ j. get_or (set new k v) j 0) same ∙ get_or-set_same new k v 0 below in
+      let there : get_or new t 0 ≡ get_or new k 0 = ap (λ j. get_or new j 0) same in
+      let first = brings_there to a t n (place ∙ sym same) in
+      let second = brings_there to a t (n + 1) (beside ∙ sym same) in
+      let e : pos (get_or (set new k v) t 0) ≡ pos (get_or old t 0) +ℤ comes to a t (n + 2) = omega (arith, ints, next, before, here, there, first, second, is) in e)
+      (λ (ne : t ≢ k).
+      let here : get_or (set new k v) t 0 ≡ get_or new t 0 = get_or-set_other new k t v 0 ne in
+      let first = brings_none to a t n (λ e. ne (sym e ∙ place)) in
+      let second = brings_none to a t (n + 1) (λ e. ne (sym e ∙ beside)) in
+      let e : pos (get_or (set new k v) t 0) ≡ pos (get_or old t 0) +ℤ comes to a t (n + 2) = omega (arith, ints, next, before, here, first, second) in e)
+      (cases_eq t k);
+}
+
 pub sums_start : (depth d : ℕ) (to : ℕ → ℕ) (a : ℕ → ℤ) (old : List ℤ) → GrowsSums depth d to a 0 old old
 sums_start depth d to a old = record { each = λ t less. let none = comes_none to a t in omega (arith, ints, none); rest = λ t e below ne. refl }
 
@@ -133,6 +158,33 @@ sums_step depth d to a n k v old new within place below size is h = record {
       get_or-set_other new k (t * depth + e) v (pos 0) apart ∙ h.rest t e under ne;
 }
 
+-- two neighbouring amounts that come to one sum
+pub sums_pair : (depth d : ℕ) (to : ℕ → ℕ) (a : ℕ → ℤ) (n k : ℕ) (v : ℤ) (old new : List ℤ) → d < depth → to n * depth + d ≡ k → to (n + 1) ≡ to n → k < length new → v ≡ (get_or new k (pos 0) +ℤ a n) +ℤ a (n + 1)
+    → GrowsSums depth d to a n old new → GrowsSums depth d to a (n + 2) old (set new k v)
+sums_pair depth d to a n k v old new within place beside below is h = record {
+  each = λ t less.
+      let next = comes_two to a t n in
+      let before = h.each t less in
+      ⊎_elim
+      (λ (same : t ≡ to n).
+      let at : t * depth + d ≡ k = ap (λ j. j * depth + d) same ∙ place in
+      let here : get_or (set new k v) (t * depth + d) (pos 0) ≡ v = ap (λ j. get_or (set new k v) j (pos 0)) at ∙ get_or-set_same new k v (pos 0) below in
+      let there : get_or new (t * depth + d) (pos 0) ≡ get_or new k (pos 0) = ap (λ j. get_or new j (pos 0)) at in
+      let first = brings_there to a t n (sym same) in
+      let second = brings_there to a t (n + 1) (beside ∙ sym same) in
+      let e : get_or (set new k v) (t * depth + d) (pos 0) ≡ get_or old (t * depth + d) (pos 0) +ℤ comes to a t (n + 2) = omega (arith, ints, next, before, here, there, first, second, is) in e)
+      (λ (ne : t ≢ to n).
+      let apart : t * depth + d ≢ k = λ e. ne (same_from_place t d (to n) d depth within within (e ∙ sym place)).0 in
+      let here : get_or (set new k v) (t * depth + d) (pos 0) ≡ get_or new (t * depth + d) (pos 0) = get_or-set_other new k (t * depth + d) v (pos 0) apart in
+      let first = brings_none to a t n (λ e. ne (sym e)) in
+      let second = brings_none to a t (n + 1) (λ e. ne (sym e ∙ beside)) in
+      let e : get_or (set new k v) (t * depth + d) (pos 0) ≡ get_or old (t * depth + d) (pos 0) +ℤ comes to a t (n + 2) = omega (arith, ints, next, before, here, first, second) in e)
+      (cases_eq t (to n));
+  rest = λ t e under ne.
+      let apart : t * depth + e ≢ k = λ same. ne (same_from_place t e (to n) d depth under within (same ∙ sym place)).1 in
+      get_or-set_other new k (t * depth + e) v (pos 0) apart ∙ h.rest t e under ne;
+}
+
 -- ---- room for one amount more
 
 pub counts_room : (to : ℕ → ℕ) (a : ℕ → ℤ) (n m k : ℕ) (old new : List ℕ) → ((i : ℕ) → pos 0 ≤ℤ a i) → to n ≡ k → n < m → a n ≡ pos 1 → k < length old → GrowsCounts to a n old new
@@ -145,6 +197,27 @@ counts_room to a n m k old new up place less one inside grown fit =
     let all = comes_up to a k (n + 1) (m - (n + 1)) up in
     let whole : comes to a k (n + 1 + (m - (n + 1))) ≡ comes to a k m = ap (comes to a k) rest in
     omega (arith, ints, before, next, brought, one, all, whole, fit k inside)
+
+pub counts_room_pair : (to : ℕ → ℕ) (a : ℕ → ℤ) (n m k : ℕ) (old new : List ℕ) → ((i : ℕ) → pos 0 ≤ℤ a i) → to n ≡ k → to (n + 1) ≡ k → n + 2 ≤ m → k < length old → GrowsCounts to a n old new
+    → ((t : ℕ) → t < length old → (pos (get_or old t 0) +ℤ comes to a t m) ≤ℤ pos 255) → ((pos (get_or new k 0) +ℤ a n) +ℤ a (n + 1)) ≤ℤ pos 255
+counts_room_pair to a n m k old new up place beside less inside grown fit =
+    let before = grown.each k inside in
+    let next = comes_two to a k n in
+    let first = brings_there to a k n place in
+    let second = brings_there to a k (n + 1) beside in
+    let rest : n + 2 + (m - (n + 2)) ≡ m = omega (arith, less) in
+    let all = comes_up to a k (n + 2) (m - (n + 2)) up in
+    let whole : comes to a k (n + 2 + (m - (n + 2))) ≡ comes to a k m = ap (comes to a k) rest in
+    omega (arith, ints, before, next, first, second, all, whole, fit k inside)
+
+-- ---- pairs of columns
+
+-- where the two pixels of a pair come to
+pub pair_first : (base col k : ℕ) → col % 2 ≡ 0 → in_row base col (2 * k) ≡ base + col / 2 + k
+pair_first base col k even = omega (arith, even)
+
+pub pair_second : (base col k : ℕ) → col % 2 ≡ 0 → in_row base col (2 * k + 1) ≡ base + col / 2 + k
+pair_second base col k even = omega (arith, even)
 
 pub sums_room : (depth d : ℕ) (to : ℕ → ℕ) (a : ℕ → ℤ) (n k : ℕ) (old new : List ℤ) → to n * depth + d ≡ k → n ≤ 256 → k < length old → ((i : ℕ) → i < n → IsWithin 4294967296 (a i)) → GrowsSums depth d to a n old new
     → ((t : ℕ) → t * depth + d < length old → IsWithin 1152921504606846976 (get_or old (t * depth + d) (pos 0))) → IsWithin 2305843009213693952 (get_or new k (pos 0))

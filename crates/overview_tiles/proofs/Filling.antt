@@ -1,14 +1,16 @@
 -- Steps of the loops that mark a raster and fill it with means.
-use Rattle.std.proofs.Common.{◌≡◌, ◌≢◌, ℕ, ℤ, ◌+◌, ◌-◌, ◌*◌, ◌/◌, ◌%◌, ◌<◌, ◌≤◌, ◌⊎◌, inl, inr, true, cond, List, length, get_or, Option, None, refl, sym, ap, ◌∙◌, subst, arith, ⊎_elim}
-use Rattle.std.specs.Prelude.{pos, is_some, nat_lt, replicate}
-use Rattle.std.proofs.Math.ListN.{set}
-use Rattle.std.proofs.lemmas.Nat.{div_below, mod_below, div-add-mod', mul-add-lt}
+use Rattle.std.proofs.Common.{◌≡◌, ◌≢◌, ℕ, ℤ, zero, suc, ◌+◌, ◌-◌, ◌*◌, ◌/◌, ◌%◌, ◌<◌, ◌≤◌, ◌⊎◌, inl, inr, true, cond, List, length, get_or, Option, None, Some, refl, sym, ap, ◌∙◌, subst, arith, ⊎_elim}
+use Rattle.std.specs.Prelude.{pos, count_by, is_some, nat_lt, replicate}
+use Rattle.std.proofs.lemmas.Nat.{div_below, mod_below, div-add-mod'}
 use Rattle.std.proofs.lemmas.Bool.{cases_eq, cases_lt, le-ltb, lt-ltb}
-use Rattle.std.proofs.lemmas.List.{get_or-set_same, get_or-set_other, length-set, get_or-replicate, get_or_past, length-replicate}
+use Rattle.std.proofs.lemmas.List.{get_or-replicate}
+use Rattle.std.proofs.lemmas.List.Sums.{sum_by-cons}
 use Rattle.raster_cells.specs.declared.kind.PixelType.{PixelType}
-use Rattle.raster_values.specs.Raster.{Pixels, IsRaster, blank, marked, marked_pixel}
+use Rattle.raster_values.specs.Raster.{Pixels, IsRaster, blank, filled, valid_count}
 use Rattle.raster_values.specs.Places.{SameShape}
 use Rattle.raster_values.specs.Block.{SameMask}
+use Rattle.raster_values.specs.Order.{MarksBits}
+use Rattle.raster_cells.specs.Masks.{mask_bit}
 use Rattle.raster_values.specs.Flat.{PutsFrom, value_in}
 use Rattle.overview_tiles.specs.Half.{mean_of}
 use Rattle.overview_tiles.specs.Sums.{Sums}
@@ -42,88 +44,29 @@ mask_at r s k h hc inside =
 
 -- ---- marks
 
-pub counted_start : (from : ℕ) (counts : List ℕ) (r : Pixels) → Counted from 0 counts r r
-counted_start from counts r = record {
-  shape = shape_refl r;
-  size = refl;
-  marks = λ i less. absurd (let no : ⊥ = omega (arith, less) in no);
-  rest = λ k out. refl;
+-- every pixel, where each has a count
+pub counted_all : (counts : List ℕ) (old : Pixels) → length counts ≡ old.rows * old.cols → ((k : ℕ) → k < length counts → 0 < get_or counts k 0) → Counted counts old (filled old (pos 0))
+counted_all counts old size some = record {
+  shape = record { kind = refl; rows = refl; cols = refl; depth = refl };
+  marks = λ k less.
+      ap (is_some {T = List ℤ}) (get_or-replicate (old.rows * old.cols) k (Some (replicate old.depth (pos 0))) None (omega (arith, less, size)))
+      ∙ sym (lt-ltb 0 (get_or counts k 0) (some k less));
 }
 
-later : (from i k : ℕ) → (k < from) ⊎ (from + (i + 1) ≤ k) → (k < from) ⊎ (from + i ≤ k)
-later from i k (inl h) = inl h
-later from i k (inr h) = inr (omega (arith, h))
-
-apart : (from i k : ℕ) → (k < from) ⊎ (from + (i + 1) ≤ k) → k ≢ from + i
-apart from i k (inl h) = λ e. omega (arith, h, e)
-apart from i k (inr h) = λ e. omega (arith, h, e)
-
-pub counted_skip : (from i : ℕ) (counts : List ℕ) (old new : Pixels) → get_or counts i 0 ≡ 0 → get_or old.pixels (from + i) None ≡ None → Counted from i counts old new → Counted from (i + 1) counts old new
-counted_skip from i counts old new nothing none h = record {
+-- by the bits of a mask
+pub counted_bits : (counts mask : List ℕ) (old new : Pixels) → 0 < old.cols → length counts ≡ old.rows * old.cols → ((k : ℕ) → k < length counts → mask_bit mask k ≡ nat_lt 0 (get_or counts k 0))
+    → MarksBits old new mask → Counted counts old new
+counted_bits counts mask old new hc size bits h = record {
   shape = h.shape;
-  size = h.size;
-  marks = λ j less. ⊎_elim
-      (λ (same : j ≡ i).
-      let here : get_or new.pixels (from + j) None ≡ None = ap (λ n. get_or new.pixels (from + n) None) same ∙ h.rest (from + i) (inr (omega arith)) ∙ none in
-      let zeros : get_or counts j 0 ≡ 0 = ap (λ n. get_or counts n 0) same ∙ nothing in
-      ap (is_some {T = List ℤ}) here ∙ sym (ap (nat_lt 0) zeros))
-      (λ (ne : j ≢ i). h.marks j (omega (arith, less, ne)))
-      (cases_eq j i);
-  rest = λ k out. h.rest k (later from i k out);
+  marks = λ k less.
+      let row = k / old.cols in
+      let col = k % old.cols in
+      let at : row * old.cols + col ≡ k = div-add-mod' k old.cols in
+      let left : row * new.cols + col ≡ k = ap (λ n. row * n + col) (sym h.shape.cols) ∙ at in
+      ap (λ j. is_some (get_or new.pixels j None)) (sym left)
+      ∙ h.places row col (div_below k old.cols old.rows hc (omega (arith, less, size)), mod_below k old.cols hc)
+      ∙ ap (mask_bit mask) at ∙ bits k less;
 }
-
-pub counted_mark : (row i : ℕ) (counts : List ℕ) (old new : Pixels) → IsRaster old → row < old.rows → i < old.cols → 0 < get_or counts i 0 → Counted (row * old.cols) i counts old new
-    → Counted (row * old.cols) (i + 1) counts old (marked new row i true)
-counted_mark row i counts old new sound below beside some h =
-    let from = row * old.cols in
-    let place : row * new.cols + i ≡ from + i = ap (λ n. row * n + i) (sym h.shape.cols) in
-    let inside : from + i < length new.pixels = (let e : from + i < old.cols * old.rows = mul-add-lt row old.cols i old.rows below beside in omega (arith, e, h.size, sound.places)) in
-    let p : Option (List ℤ) = marked_pixel new.depth true (get_or new.pixels (row * new.cols + i) None) in
-    record {
-      shape = shape_trans old new (marked new row i true) h.shape (record { kind = refl; rows = refl; cols = refl; depth = refl });
-      size = length-set new.pixels (row * new.cols + i) p ∙ h.size;
-      marks = λ j less. ⊎_elim
-          (λ (same : j ≡ i).
-          let at : from + j ≡ row * new.cols + i = ap (λ n. from + n) same ∙ sym place in
-          let here : get_or (set new.pixels (row * new.cols + i) p) (from + j) None ≡ p = ap (λ n. get_or (set new.pixels (row * new.cols + i) p) n None) at ∙ get_or-set_same new.pixels (row * new.cols + i) p None (omega (arith, inside, place)) in
-          ap (is_some {T = List ℤ}) here ∙ sym (lt-ltb 0 (get_or counts j 0) (subst (λ n. 0 < get_or counts n 0) (sym same) some)))
-          (λ (ne : j ≢ i).
-          ap (is_some {T = List ℤ}) (get_or-set_other new.pixels (row * new.cols + i) (from + j) p None (λ e. ne (omega (arith, e, place)))) ∙ h.marks j (omega (arith, less, ne)))
-          (cases_eq j i);
-      rest = λ k out. get_or-set_other new.pixels (row * new.cols + i) k p None (λ e. apart from i k out (e ∙ place)) ∙ h.rest k (later from i k out);
-    }
-
-beyond : (row a b w e n : ℕ) → b ≡ a → e ≡ a + w → (n < 0) ⊎ (0 + e ≤ n) → (n < b) ⊎ (b + w ≤ n)
-beyond row a b w e n at next (inl h) = absurd (let no : ⊥ = omega (arith, h) in no)
-beyond row a b w e n at next (inr h) = inr (omega (arith, h, at, next))
-
-further : (a w e n : ℕ) → e ≡ a + w → (n < 0) ⊎ (0 + e ≤ n) → (n < 0) ⊎ (0 + a ≤ n)
-further a w e n next (inl h) = inl h
-further a w e n next (inr h) = inr (omega (arith, h, next))
-
--- one row more
-pub counted_row : (row : ℕ) (counts part : List ℕ) (r0 r1 r2 : Pixels) → ((i : ℕ) → i < r0.cols → get_or part i 0 ≡ get_or counts (row * r0.cols + i) 0)
-    → Counted 0 (row * r0.cols) counts r0 r1 → Counted (row * r1.cols) r1.cols part r1 r2 → Counted 0 ((row + 1) * r0.cols) counts r0 r2
-counted_row row counts part r0 r1 r2 are h whole =
-    let wide : r1.cols ≡ r0.cols = sym h.shape.cols in
-    let k : Counted (row * r1.cols) r0.cols part r1 r2 = subst (λ n. Counted (row * r1.cols) n part r1 r2) wide whole in
-    let at : row * r1.cols ≡ row * r0.cols = ap (λ n. row * n) (sym h.shape.cols) in
-    let next : (row + 1) * r0.cols ≡ row * r0.cols + r0.cols = omega arith in
-    record {
-      shape = shape_trans r0 r1 r2 h.shape k.shape;
-      size = k.size ∙ h.size;
-      marks = λ j less. ⊎_elim
-          (λ (before : j < row * r0.cols).
-          ap (is_some {T = List ℤ}) (k.rest (0 + j) (inl (omega (arith, before, at)))) ∙ h.marks j before)
-          (λ (behind : row * r0.cols ≤ j).
-          let i = j - row * r0.cols in
-          let there : row * r0.cols + i ≡ j = omega (arith, behind) in
-          let under : i < r0.cols = omega (arith, behind, less, next) in
-          let here : row * r1.cols + i ≡ 0 + j = omega (arith, at, there) in
-          ap (λ n. is_some (get_or r2.pixels n None)) (sym here) ∙ k.marks i under ∙ ap (nat_lt 0) (are i under ∙ ap (λ n. get_or counts n 0) there))
-          (cases_lt j (row * r0.cols));
-      rest = λ n out. k.rest n (beyond row (row * r0.cols) (row * r1.cols) r0.cols ((row + 1) * r0.cols) n at next out) ∙ h.rest n (further (row * r0.cols) r0.cols ((row + 1) * r0.cols) n next out);
-    }
 
 -- ---- means
 
@@ -171,14 +114,14 @@ mean_round n y x h =
 
 -- ---- the raster of a blank one
 
-pub blank_none : (kind : PixelType) (rows cols depth k : ℕ) → get_or (blank kind rows cols depth).pixels k None ≡ None
-blank_none kind rows cols depth k =
-    ⊎_elim
-    (λ (less : k < rows * cols). get_or-replicate (rows * cols) k None None less)
-    (λ (past : rows * cols ≤ k). get_or_past (replicate (rows * cols) None) k None (omega (arith, past, length-replicate {A = Option (List ℤ)} (rows * cols) None)))
-    (cases_lt k (rows * cols))
+none_counted : (n : ℕ) → count_by (is_some {T = List ℤ}) (replicate n None) ≡ 0
+none_counted zero = refl
+none_counted (suc n) = let first = sum_by-cons (λ (p : Option (List ℤ)). cond (is_some p) 1 0) None (replicate n None) in omega (arith, first, none_counted n)
 
-pub has_means : (kind : PixelType) (rows cols depth : ℕ) (s : Sums) (r1 r2 : Pixels) → 0 < cols → IsRaster r2 → length s.counts ≡ rows * cols → Counted 0 (length s.counts) s.counts (blank kind rows cols depth) r1
+pub blank_count : (kind : PixelType) (rows cols depth : ℕ) → valid_count (blank kind rows cols depth) ≡ 0
+blank_count kind rows cols depth = none_counted (rows * cols)
+
+pub has_means : (kind : PixelType) (rows cols depth : ℕ) (s : Sums) (r1 r2 : Pixels) → 0 < cols → IsRaster r2 → length s.counts ≡ rows * cols → Counted s.counts (blank kind rows cols depth) r1
     → Fills s.counts s.sums 0 (r1.rows * r1.cols) r1 r2 → HasMeans kind rows cols depth s r2
 has_means kind rows cols depth s r1 r2 hc sound size counted filled =
     let b = blank kind rows cols depth in
@@ -186,7 +129,7 @@ has_means kind rows cols depth s r1 r2 hc sound size counted filled =
     let ed : depth ≡ r1.depth = counted.shape.depth in
     let places : rows * cols ≡ r1.rows * r1.cols = ap (λ j. j * cols) counted.shape.rows ∙ ap (λ j. r1.rows * j) ec in
     let mark : (k : ℕ) → k < rows * cols → is_some (get_or r2.pixels k None) ≡ is_some (get_or r1.pixels k None) = λ k inside. mask_at r1 r2 k filled.same (omega (arith, hc, ec)) (omega (arith, inside, places)) in
-    let count : (k : ℕ) → k < rows * cols → is_some (get_or r1.pixels k None) ≡ nat_lt 0 (get_or s.counts k 0) = λ k inside. ap (λ j. is_some (get_or r1.pixels j None)) (let e : k ≡ 0 + k = omega arith in e) ∙ counted.marks k (omega (arith, inside, size)) in
+    let count : (k : ℕ) → k < rows * cols → is_some (get_or r1.pixels k None) ≡ nat_lt 0 (get_or s.counts k 0) = λ k inside. counted.marks k (omega (arith, inside, size)) in
     record {
       raster = sound;
       shape = shape_trans b r1 r2 counted.shape filled.same.shape;

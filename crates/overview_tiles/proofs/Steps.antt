@@ -1,5 +1,5 @@
 -- Steps of the loops that lay a raster.
-use Rattle.std.proofs.Common.{◌≡◌, ◌≢◌, ℕ, ℤ, ◌+◌, ◌-◌, ◌*◌, ◌/◌, ◌%◌, ◌<◌, ◌≤◌, Bool, true, false, List, [], length, get_or, Option, Some, None, refl, sym, ap, ◌∙◌, subst, arith, ⊎_elim}
+use Rattle.std.proofs.Common.{◌≡◌, ◌≢◌, ℕ, ℤ, zero, suc, ◌∷◌, map, ◌+◌, ◌-◌, ◌*◌, ◌/◌, ◌%◌, ◌<◌, ◌≤◌, Bool, true, false, cond, List, [], length, get_or, Option, Some, None, refl, sym, ap, ◌∙◌, subst, arith, ⊎_elim}
 use Rattle.std.specs.Prelude.{pos, ◌+ℤ◌, ◌≤ℤ◌, is_some, unwrap_or}
 use Rattle.std.proofs.lemmas.Int.{ints}
 use Rattle.std.proofs.lemmas.Nat.{mul-add-lt, div-mul-add, mod-mul-add}
@@ -14,7 +14,7 @@ use Rattle.raster_values.specs.Raster.{Pixels, IsRaster, IsPixel}
 use Rattle.raster_cells.specs.Shapes.{IsShape}
 use Rattle.raster_values.specs.Flat.{value_in}
 use Rattle.overview_tiles.specs.declared.layer.Frame.{Frame}
-use Rattle.overview_tiles.specs.inside.Comes.{GrowsCounts, GrowsSums, IsWithin, comes, in_row, mark_in, marks_amount, one_of, total_at, values_amount}
+use Rattle.overview_tiles.specs.inside.Comes.{GrowsCounts, GrowsSums, IsWithin, comes, in_row, mark_in, marks_amount, one_of, ones, total_at, values_amount}
 use Rattle.overview_tiles.specs.inside.Lays.{AreWithin, CountsFit, IsPlaced, LaysDepths, LaysMarks, LaysValues}
 use Rattle.overview_tiles.proofs.Comes.{comes_none, comes_same, comes_join, comes_up, comes_within, counts_start}
 
@@ -157,6 +157,30 @@ piece_values f r row col n d values t across size are =
     (λ i less. row_total f row col i (omega (arith, across, less)))
     (λ i less. are i less)
 
+-- ---- a piece of which every pixel is valid
+
+pub marks_are : (pixels : List (Option (List ℤ))) (k : ℕ) → get_or (map is_some pixels) k false ≡ is_some (get_or pixels k None)
+marks_are [] k = refl
+marks_are (p ∷ ps) zero = refl
+marks_are (p ∷ ps) (suc k) = marks_are ps k
+
+pub whole_comes : (f : Frame) (r : Pixels) (row col n t : ℕ) → col + n ≤ f.cols
+    → ((i : ℕ) → i < n → is_some (get_or r.pixels (row * f.cols + col + i) None) ≡ true)
+    → comes (in_row ((f.top + row) / 2 * f.cols) (f.left + col)) ones t n ≡ comes (λ i. total_in f (row * f.cols + col + i)) (λ i. mark_in r (row * f.cols + col + i)) t n
+whole_comes f r row col n t across all =
+    comes_same (in_row ((f.top + row) / 2 * f.cols) (f.left + col)) (λ i. total_in f (row * f.cols + col + i)) ones (λ i. mark_in r (row * f.cols + col + i)) t n
+    (λ i less. row_total f row col i (omega (arith, across, less)))
+    (λ i less. sym (ap one_of (all i less)))
+
+pub whole_counts : (f : Frame) (r : Pixels) (row col n : ℕ) (old new : List ℕ) → col + n ≤ f.cols
+    → ((i : ℕ) → i < n → is_some (get_or r.pixels (row * f.cols + col + i) None) ≡ true)
+    → GrowsCounts (in_row ((f.top + row) / 2 * f.cols) (f.left + col)) ones n old new
+    → GrowsCounts (λ i. total_in f (row * f.cols + col + i)) (λ i. mark_in r (row * f.cols + col + i)) n old new
+whole_counts f r row col n old new across all h = record {
+  each = λ t less.
+      h.each t less ∙ ap (λ z. pos (get_or old t 0) +ℤ z) (whole_comes f r row col n t across all);
+}
+
 -- ---- depth by depth
 
 pub depths_none : (f : Frame) (r : Pixels) (from n places : ℕ) (s : List ℤ) → LaysDepths f r from n places 0 s s
@@ -189,7 +213,7 @@ depths_more f r row col n places d values s0 s1 s2 deep across size room are gro
 
 -- ---- limits of a shape
 
-le_times : (a b : ℕ) → 0 < b → a ≤ a * b
+pub le_times : (a b : ℕ) → 0 < b → a ≤ a * b
 le_times a b h = (let e : a * 1 ≤ a * b = mul-le-mul_left a h in omega (arith, e))
 
 pub places_few : (rows cols depth : ℕ) → IsShape rows cols depth → rows * cols ≤ 16777216
@@ -211,6 +235,10 @@ place_back t d places depth n less e =
 one_up : (b : Bool) → pos 0 ≤ℤ one_of b
 one_up true = omega (arith, ints)
 one_up false = omega (arith, ints)
+
+pub mark_number : (b : Bool) → pos (cond b 1 0) ≡ one_of b
+mark_number true = refl
+mark_number false = refl
 
 pub marks_up : (marks : List Bool) (i : ℕ) → pos 0 ≤ℤ marks_amount marks i
 marks_up marks i = one_up (get_or marks i false)

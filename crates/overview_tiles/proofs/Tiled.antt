@@ -71,6 +71,12 @@ sum_within U16 n z few low high = (omega (arith, ints, few, low, high), omega (a
 sum_within I32 n z few low high = (omega (arith, ints, few, low, high), omega (arith, ints, few, low, high))
 sum_within U32 n z few low high = (omega (arith, ints, few, low, high), omega (arith, ints, few, low, high))
 
+-- and such a sum is small
+pub sum_bound : (kind : PixelType) (places depth k d : ℕ) (counts : List ℕ) (sums : List ℤ) → HaveMeans kind places depth counts sums → k < places → d < depth → 0 < get_or counts k 0
+    → IsWithin 144115188075855872 (get_or sums (k * depth + d) (pos 0))
+sum_bound kind places depth k d counts sums h inside deep some =
+    sum_within kind (get_or counts k 0) (get_or sums (k * depth + d) (pos 0)) (h.few k) (h.least k d inside deep some) (h.greatest k d inside deep some)
+
 -- such a sum is a number of 64 bits
 pub sum_round : (kind : PixelType) (places depth k d : ℕ) (counts : List ℕ) (sums : List ℤ) → HaveMeans kind places depth counts sums → k < places → d < depth → 0 < get_or counts k 0
     → to_z w64 (of_z w64 (get_or sums (k * depth + d) (pos 0))) ≡ get_or sums (k * depth + d) (pos 0)

@@ -1,9 +1,10 @@
 //! The numbers of one band of a mosaic, and a raster laid into them.
 
-ghost use Rattle.std.specs.Prelude.{◌≡◌, ℕ, ℤ, pos, ◌+◌, ◌*◌, ◌/◌, ◌<◌, ◌≤◌, ◌^◌, ◌+ℤ◌, ◌≤ℤ◌, length, get_or, replicate, IfOk, true, false};
+ghost use Rattle.std.specs.Prelude.{◌≡◌, ℕ, ℤ, pos, ◌+◌, ◌*◌, ◌/◌, ◌%◌, ◌<◌, ◌≤◌, ◌^◌, ◌+ℤ◌, ◌≤ℤ◌, None, is_some, length, get_or, replicate, IfOk, true, false};
+ghost use Rattle.raster_values.specs.Raster.{IsRaster};
 ghost use Rattle.raster_values.specs.Flat.{value_in};
 ghost use Rattle.overview_tiles.specs.Sums.{zero_sums};
-ghost use Rattle.overview_tiles.specs.inside.Comes.{GrowsCounts, GrowsSums, IsWithin, comes, in_row, marks_amount, total_at, values_amount};
+ghost use Rattle.overview_tiles.specs.inside.Comes.{GrowsCounts, GrowsSums, IsWithin, comes, in_row, marks_amount, ones, total_at, values_amount};
 ghost use Rattle.overview_tiles.specs.inside.Lays.{AreWithin, CanLay, CountsFit, IsPlaced, LaysAll, LaysMarks, LaysValues};
 
 use raster_values::Raster;
@@ -38,9 +39,9 @@ pub(crate) struct Frame {
     pub left: usize,
 }
 
-/// Adds 1 to the count of each marked pixel of a row: the pixel of the first mark stands in the
-/// column `col` of the mosaic, and the counts of its row begin at `base`.
-fn add_marks(marks: &[bool], base: usize, col: usize, counts: &mut [u8])
+/// Adds 1 to the count of each marked pixel of a row, one by one: the pixel of the first mark
+/// stands in the column `col` of the mosaic, and the counts of its row begin at `base`.
+fn add_each_mark(marks: &[bool], base: usize, col: usize, counts: &mut [u8])
     requires low { base < 2 ^ 32 }
     requires left { col < 2 ^ 32 }
     requires few { length marks.now ≤ 256 }
@@ -57,9 +58,66 @@ fn add_marks(marks: &[bool], base: usize, col: usize, counts: &mut [u8])
     }
 }
 
-/// Adds the values of the pixels of a row at a depth to their sums: the pixel of the first value
-/// stands in the column `col` of the mosaic, and the sums of its row begin with that number `base`.
-fn add_values(values: &[i64], base: usize, col: usize, depth: usize, d: usize, sums: &mut [i64])
+/// The same, where the first pixel stands in an even column and their number is even: each two
+/// pixels come to one count.
+fn add_mark_pairs(marks: &[bool], base: usize, col: usize, counts: &mut [u8])
+    requires low { base < 2 ^ 32 }
+    requires left { col < 2 ^ 32 }
+    requires few { length marks.now ≤ 256 }
+    requires room { (i : ℕ) → i < length marks.now → in_row base col i < length counts.old }
+    requires fits { (t : ℕ) → t < length counts.old → (pos (get_or counts.old t 0)
+        +ℤ comes (in_row base col) (marks_amount marks.now) t (length marks.now)) ≤ℤ pos 255 }
+    requires even { col % 2 ≡ 0 }
+    requires pairs { length marks.now % 2 ≡ 0 }
+    ensures { GrowsCounts (in_row base col) (marks_amount marks.now) (length marks.now)
+        counts.old counts.new }
+{
+    let first = base + col / 2;
+    for k in 0..marks.len() / 2 {
+        counts[first + k] += u8::from(marks[2 * k]) + u8::from(marks[2 * k + 1]);
+    }
+}
+
+/// The same of `count` pixels that are all valid.
+fn add_whole_pairs(count: usize, base: usize, col: usize, counts: &mut [u8])
+    requires low { base < 2 ^ 32 }
+    requires left { col < 2 ^ 32 }
+    requires few { count ≤ 256 }
+    requires room { (i : ℕ) → i < count → in_row base col i < length counts.old }
+    requires fits { (t : ℕ) → t < length counts.old → (pos (get_or counts.old t 0)
+        +ℤ comes (in_row base col) ones t count) ≤ℤ pos 255 }
+    requires even { col % 2 ≡ 0 }
+    requires pairs { count % 2 ≡ 0 }
+    ensures { GrowsCounts (in_row base col) ones count counts.old counts.new }
+{
+    let first = base + col / 2;
+    for k in 0..count / 2 {
+        counts[first + k] += 2;
+    }
+}
+
+/// Adds 1 to the count of each marked pixel of a row.
+fn add_marks(marks: &[bool], base: usize, col: usize, counts: &mut [u8])
+    requires low { base < 2 ^ 32 }
+    requires left { col < 2 ^ 32 }
+    requires few { length marks.now ≤ 256 }
+    requires room { (i : ℕ) → i < length marks.now → in_row base col i < length counts.old }
+    requires fits { (t : ℕ) → t < length counts.old → (pos (get_or counts.old t 0)
+        +ℤ comes (in_row base col) (marks_amount marks.now) t (length marks.now)) ≤ℤ pos 255 }
+    ensures { GrowsCounts (in_row base col) (marks_amount marks.now) (length marks.now)
+        counts.old counts.new }
+{
+    if col % 2 == 0 && marks.len() % 2 == 0 {
+        add_mark_pairs(marks, base, col, counts);
+    } else {
+        add_each_mark(marks, base, col, counts);
+    }
+}
+
+/// Adds the values of the pixels of a row at a depth to their sums, one by one: the pixel of the
+/// first value stands in the column `col` of the mosaic, and the sums of its row begin with that
+/// number `base`.
+fn add_each_value(values: &[i64], base: usize, col: usize, depth: usize, d: usize, sums: &mut [i64])
     requires low { base < 2 ^ 32 }
     requires left { col < 2 ^ 32 }
     requires few { length values.now ≤ 256 }
@@ -76,6 +134,61 @@ fn add_values(values: &[i64], base: usize, col: usize, depth: usize, d: usize, s
 {
     for (i, value) in values.iter().enumerate() {
         sums[(base + (col + i) / 2) * depth + d] += *value;
+    }
+}
+
+/// The same, where the first pixel stands in an even column and their number is even: each two
+/// pixels come to one sum.
+fn add_value_pairs(
+    values: &[i64],
+    base: usize,
+    col: usize,
+    depth: usize,
+    d: usize,
+    sums: &mut [i64],
+)
+    requires low { base < 2 ^ 32 }
+    requires left { col < 2 ^ 32 }
+    requires few { length values.now ≤ 256 }
+    requires depth { d < depth }
+    requires depths { depth ≤ 65536 }
+    requires room { (i : ℕ) → i < length values.now
+        → in_row base col i * depth + d < length sums.old }
+    requires small { (i : ℕ) → i < length values.now
+        → IsWithin 4294967296 (get_or values.now i (pos 0)) }
+    requires within { (t : ℕ) → t * depth + d < length sums.old
+        → IsWithin 1152921504606846976 (get_or sums.old (t * depth + d) (pos 0)) }
+    requires even { col % 2 ≡ 0 }
+    requires pairs { length values.now % 2 ≡ 0 }
+    ensures { GrowsSums depth d (in_row base col) (values_amount values.now) (length values.now)
+        sums.old sums.new }
+{
+    let first = base + col / 2;
+    for k in 0..values.len() / 2 {
+        sums[(first + k) * depth + d] += values[2 * k] + values[2 * k + 1];
+    }
+}
+
+/// Adds the values of the pixels of a row at a depth to their sums.
+fn add_values(values: &[i64], base: usize, col: usize, depth: usize, d: usize, sums: &mut [i64])
+    requires low { base < 2 ^ 32 }
+    requires left { col < 2 ^ 32 }
+    requires few { length values.now ≤ 256 }
+    requires depth { d < depth }
+    requires depths { depth ≤ 65536 }
+    requires room { (i : ℕ) → i < length values.now
+        → in_row base col i * depth + d < length sums.old }
+    requires small { (i : ℕ) → i < length values.now
+        → IsWithin 4294967296 (get_or values.now i (pos 0)) }
+    requires within { (t : ℕ) → t * depth + d < length sums.old
+        → IsWithin 1152921504606846976 (get_or sums.old (t * depth + d) (pos 0)) }
+    ensures { GrowsSums depth d (in_row base col) (values_amount values.now) (length values.now)
+        sums.old sums.new }
+{
+    if col % 2 == 0 && values.len() % 2 == 0 {
+        add_value_pairs(values, base, col, depth, d, sums);
+    } else {
+        add_each_value(values, base, col, depth, d, sums);
     }
 }
 
@@ -109,6 +222,17 @@ fn lay_values(
     }
 }
 
+/// Whether all of `count` pixels from number `place` on are valid.
+fn is_whole(raster: &Raster, place: usize, count: usize) -> bool
+    requires within { place + count ≤ raster.now.rows * raster.now.cols }
+    requires raster { IsRaster raster.now }
+    ensures { result ≡ true → (i : ℕ) → i < count
+        → is_some (get_or raster.now.pixels (place + i) None) ≡ true }
+{
+    let run = raster.next_run(place, place + count);
+    run.start == place && run.end == place + count
+}
+
 /// Adds 1 to the counts of the valid ones among `count` pixels of a row. The room for their marks
 /// is lent.
 fn lay_marks(
@@ -131,8 +255,13 @@ fn lay_marks(
 {
     let place = row * frame.cols + col;
     let base = (frame.top + row) / 2 * frame.cols;
-    raster.marks_from(place, room);
-    add_marks(room, base, frame.left + col, counts);
+    let at = frame.left + col;
+    if at % 2 == 0 && count % 2 == 0 && is_whole(raster, place, count) {
+        add_whole_pairs(count, base, at, counts);
+    } else {
+        raster.marks_from(place, room);
+        add_marks(room, base, at, counts);
+    }
 }
 
 /// Lays `count` pixels of a row.
@@ -165,6 +294,21 @@ fn lay_piece(
     lay_values(raster, frame, row, col, count, &mut values[..count], sums);
 }
 
+/// How many of the next `left` pixels of a row, of which the first stands in this column of the
+/// mosaic, are laid at once: one, or pairs that come to one pixel each.
+fn piece_of(col: usize, left: usize) -> usize
+    requires { 0 < left }
+    ensures some { 0 < result }
+    ensures few { result ≤ 256 }
+    ensures within { result ≤ left }
+{
+    if col % 2 == 1 || left == 1 {
+        1
+    } else {
+        PIECE.min(left / 2 * 2)
+    }
+}
+
 /// Lays the pixels of a row.
 fn lay_row(raster: &Raster, frame: Frame, row: usize, counts: &mut [u8], sums: &mut [i64])
     requires row { row < raster.now.rows }
@@ -181,7 +325,7 @@ fn lay_row(raster: &Raster, frame: Frame, row: usize, counts: &mut [u8], sums: &
 {
     let mut col = 0;
     while col < frame.cols {
-        let count = PIECE.min(frame.cols - col);
+        let count = piece_of(frame.left + col, frame.cols - col);
         lay_piece(raster, frame, row, col, count, counts, sums);
         col += count;
     }

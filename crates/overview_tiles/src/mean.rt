@@ -7,7 +7,7 @@ ghost use Rattle.overview_tiles.specs.inside.Comes.{IsWithin};
 /// The mean of one to four values with this sum, rounded to the nearest whole number, and up where
 /// two are as near.
 #[inline(always)]
-fn mean(sum: i64, count: u8) -> i64
+pub(crate) fn mean(sum: i64, count: u8) -> i64
     requires some { 1 ≤ count }
     requires few { count ≤ 4 }
     requires within { IsWithin 1152921504606846976 sum }

@@ -5,7 +5,7 @@
 
 use outside_io::{FileVolume, NoVolume, StdSink, hold_numbers};
 use overview_cli::serve;
-use program_ends::{ProcessArguments, end_without_memory, two_paths_at};
+use program_ends::{ProcessArguments, end_without_memory, tell_files, two_paths_at};
 use std::process::ExitCode;
 use tile_workers::Open;
 
@@ -20,9 +20,11 @@ fn main(rt: HostRuntime) -> ExitCode {
         Ok(Some(paths)) if held.is_some() => {
             let mut from = FileVolume::new(rt, paths.from.bundle, paths.from.journal);
             let mut to = FileVolume::new(rt, paths.to.bundle, paths.to.journal);
-            serve(
+            let code = serve(
                 &rt, alloc, &args, &mut out, &mut err, &mut from, &mut to, &Open,
-            )
+            );
+            tell_files(alloc, code, &[from], &to, &mut err);
+            code
         }
         Ok(_) => {
             let mut from = NoVolume::new();

@@ -8,10 +8,12 @@
 
 mod arguments;
 mod ended;
+mod files;
 mod paths;
 mod stop;
 
 pub use arguments::{Arguments, ProcessArguments, word_at, words_from};
 pub use ended::{end_without_memory, ended_status, exit_code, tell};
+pub use files::tell_files;
 pub use paths::{Paths, TwoPaths, paths_at, two_paths_at};
 pub use stop::{Refusal, Stop};

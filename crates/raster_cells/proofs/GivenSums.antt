@@ -1,5 +1,5 @@
 -- Sums of an offset and numbers of steps that are put into a raster.
-use Rattle.std.proofs.Common.{[], ℤ, pos, ◌-ℤ◌, ◌≤ℤ◌, arith, ℕ, ◌*◌, ◌+ℤ◌, List, ◌∷◌, min, ◌≡◌, length, replicate, refl, zero, suc, take, drop, map, ap, ◌<◌, get_or}
+use Rattle.std.proofs.Common.{[], ℤ, pos, ◌-ℤ◌, ◌≤ℤ◌, arith, ℕ, ◌+◌, ◌-◌, ◌*◌, ◌∙◌, ◌+ℤ◌, List, ◌∷◌, min, ◌≡◌, length, replicate, refl, zero, suc, take, drop, map, ap, ◌<◌, get_or}
 use Rattle.std.proofs.lemmas.Int.{ints, to_z-of_z}
 use Rattle.std.specs.Prelude.{All}
 use Rattle.std.proofs.lemmas.List.Elements.{All-nil, All-cons}
@@ -49,6 +49,11 @@ map_cut f (q ∷ qs) zero (suc count) = ap (λ vs. f q ∷ vs) (map_cut f qs zer
 
 pub sums_cut : (qs : List ℕ) (offset : ℤ) (step gap n count : ℕ) → sums_within (take count (drop n qs)) offset step gap ≡ take count (drop n (sums_within qs offset step gap))
 sums_cut qs offset step gap n count = map_cut (λ q. offset +ℤ pos (min (q * step) gap)) qs n count
+
+pub sums_of_run : (qs : List ℕ) (offset : ℤ) (step gap n count : ℕ) → sums_within (take (n + count - n) (drop n qs)) offset step gap ≡ take count (drop n (sums_within qs offset step gap))
+sums_of_run qs offset step gap n count =
+    let many : n + count - n ≡ count = omega arith in
+    ap (λ m. sums_within (take m (drop n qs)) offset step gap) many ∙ sums_cut qs offset step gap n count
 
 pub sum_at : (qs : List ℕ) (offset : ℤ) (step gap i : ℕ) → i < length qs → get_or (sums_within qs offset step gap) i (pos 0) ≡ offset +ℤ pos (min (get_or qs i 0 * step) gap)
 sum_at qs offset step gap i less = get_or-map (λ q. offset +ℤ pos (min (q * step) gap)) qs i 0 (pos 0) less

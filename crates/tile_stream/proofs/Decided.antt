@@ -1,6 +1,6 @@
 -- Bytes begin with a tile, or have a first fault.
-use Rattle.std.proofs.Common.{◌≡◌, ℕ, ◌+◌, ◌*◌, ◌<◌, ◌≤◌, List, ◌++◌, length, get_or, take, drop, refl, sym, ap, ◌∙◌, arith, ◌⊎◌, inl, inr, append_assoc}
-use Rattle.std.proofs.lemmas.Bool.{cases_lt, cases_eq}
+use Rattle.std.proofs.Common.{◌≡◌, ℕ, ◌+◌, ◌*◌, ◌≤◌, List, ◌++◌, length, get_or, take, drop, refl, sym, ap, ◌∙◌, arith, ◌⊎◌, inl, inr, append_assoc}
+use Rattle.std.proofs.lemmas.Bool.{cases_eq}
 use Rattle.std.proofs.lemmas.List.{length-take, take-append-drop}
 use Rattle.first_fault.specs.Faults.{none, wrong, unless}
 use Rattle.first_fault.specs.Parts.{AreBytes, InFront, HasFault, IsDecided}
@@ -9,19 +9,9 @@ use Rattle.raster_values.specs.Raster.{Pixels}
 use Rattle.raster_grids.specs.BandsGrid.{IsBandsGrid, bands_faults}
 use Rattle.raster_grids.specs.declared.reading.GridReason.TheVariants.{Truncated}
 use Rattle.raster_grids.proofs.BandsGridDecided.{bands_grids_are_decided}
-use Rattle.tile_stream.specs.declared.tile.TileReason.{TileReason}
 use Rattle.tile_stream.specs.declared.tile.TileReason.TheVariants.{BadTileMark, BadSlot, Grid}
 use Rattle.tile_stream.specs.Tile.{IsTile, IsTileHead, TilesAreDecided, col_faults, tile_cut, tile_head_faults, of_grid, row_faults, tile_faults}
-
-at_most : (m n : ℕ) → (m ≤ n) ⊎ (¬ (m ≤ n))
-at_most m n = by (cases_lt n m)
-  where
-    by : (n < m) ⊎ (m ≤ n) → (m ≤ n) ⊎ (¬ (m ≤ n))
-    by (inl more) = inr (λ h. let no : ⊥ = omega arith in no)
-    by (inr less) = inl less
-
-the_fault : (why : TileReason) (at : ℕ) → HasFault (wrong why at)
-the_fault why at = record { place = at; reason = why; fault = (refl, refl) }
+use Rattle.tile_stream.proofs.Fronts.{at_most, the_fault}
 
 -- ---- the head
 

@@ -1,3 +1,5 @@
 pub mod Decided
+pub mod Fronts
+pub mod OneBehindAnother
 pub mod Streams
 pub mod Tiles

@@ -1,7 +1,5 @@
 -- Tiles are parts, and how they are taken.
 use Rattle.std.proofs.Common.{◌≡◌, inl, inr, ℕ, ◌+◌, ◌*◌, ◌<◌, ◌≤◌, List, [], ◌++◌, length, get_or, take, drop, Option, Some, None, refl, sym, ap, ◌∙◌, subst, arith, append_assoc, length-append}
-use Rattle.std.proofs.lemmas.Bool.{cases_lt}
-use Rattle.std.proofs.lemmas.List.{append-nil, take_all, take_at}
 use Rattle.first_fault.specs.Faults.{Faults, none, wrong, unless, moved}
 use Rattle.first_fault.specs.Parts.{IsSingle, IsPart}
 use Rattle.first_fault.proofs.Parts.{single-none, single-unless, single-in_order, passed, behind_it, same_rest}
@@ -23,11 +21,9 @@ use Rattle.tile_stream.specs.declared.tile.TileReason.TheVariants.{BadTileMark, 
 use Rattle.tile_stream.specs.declared.tile.TileStop.TheVariants.{Fault}
 use Rattle.tile_stream.specs.Tile.{IsTile, IsTileHead, IsToldStop, TilesAreParts, TookTile, col_faults, tile_cut, tile_head_faults, tile_mark_faults, of_grid, row_faults, tile_faults}
 use Rattle.tile_stream.specs.inside.Stops.{stop_of}
+use Rattle.tile_stream.proofs.Fronts.{head_of_all, split_heads}
 
 -- ---- the head
-
-split_heads : (a b s t : List ℕ) (n : ℕ) → length a ≡ n → length b ≡ n → a ++ s ≡ b ++ t → a ≡ b
-split_heads a b s t n la lb e = sym (take_at a s n la) ∙ ap (take n) e ∙ take_at b t n lb
 
 head_once : (a b s t : List ℕ) (x y : ℕ) → IsTileHead a x → IsTileHead b y → a ++ s ≡ b ++ t → (a ≡ b) × (x ≡ y)
 head_once a b s t x y ha hb e =
@@ -49,17 +45,10 @@ one_mark a =
     let row : IsSingle (row_faults a) = single-unless (2 ≤ length a) (Grid Truncated) (length a) (unless (get_or a 1 0 ≤ 127) (wrong BadSlot 1) (col_faults a)) (single-unless (get_or a 1 0 ≤ 127) BadSlot 1 (col_faults a) col) in
     single-unless (1 ≤ length a) (Grid Truncated) (length a) (unless (get_or a 0 0 ≡ 84) (wrong BadTileMark 0) (row_faults a)) (single-unless (get_or a 0 0 ≡ 84) BadTileMark 0 (row_faults a) row)
 
--- of three bytes, or of fewer with which the input ends, the first three are all
-head_of_all : (bytes rest : List ℕ) → length bytes ≤ 3 → (length bytes < 3 → rest ≡ []) → take 3 (bytes ++ rest) ≡ bytes
-head_of_all bytes rest few end = elim (cases_lt (length bytes) 3) [
-  | inl less ↦ ap (take 3) (ap (λ (xs : List ℕ). bytes ++ xs) (end less) ∙ append-nil bytes) ∙ take_all 3 bytes few
-  | inr all ↦ take_at bytes rest 3 (let e : length bytes ≡ 3 = omega arith in e)
-]
-
 head_part : IsPart IsTileHead tile_head_faults
 head_part = record {
   once = head_once;
-  either = λ a s x p r h w. no_head_fault a x p r h (subst (λ (u : List ℕ). tile_mark_faults u p r) (head_of_all a s (let few : length a ≤ 3 = omega (arith, h.size) in few) (λ fewer. absurd (let no : ⊥ = omega (arith, h.size) in no))) w);
+  either = λ a s x p r h w. no_head_fault a x p r h (subst (λ (u : List ℕ). tile_mark_faults u p r) (head_of_all 3 a s (let few : length a ≤ 3 = omega (arith, h.size) in few) (λ fewer. absurd (let no : ⊥ = omega (arith, h.size) in no))) w);
   single = λ bytes. one_mark (take 3 bytes);
 }
 
@@ -102,7 +91,7 @@ pub head_told : (old new : Option (List ℕ)) (at p place : ℕ) (reason : TileR
     → ((rest : List ℕ) → new ≡ Some rest → length bytes < 3 → rest ≡ []) → tile_mark_faults bytes p reason → IsToldStop old at (Fault (record { reason = reason; place = place }))
 head_told None new at p place reason bytes took some few is end w = tt
 head_told (Some left) new at p place reason bytes (rest, (joined, then)) some few is end w =
-    let all : take 3 (bytes ++ rest) ≡ bytes = head_of_all bytes rest few (end rest then) in
+    let all : take 3 (bytes ++ rest) ≡ bytes = head_of_all 3 bytes rest few (end rest then) in
     let fault : tile_faults (bytes ++ rest) p reason = inl (subst (λ (u : List ℕ). tile_mark_faults u p reason) (sym all) w) in
     ((let size : length left ≡ length (bytes ++ rest) = ap length joined in omega (arith, length-append bytes rest)), (p, (is, subst (λ (u : List ℕ). tile_faults u p reason) (sym joined) fault)))
 

@@ -9,9 +9,10 @@ use Rattle.lerc_encode.specs.Encoded.{BandsNeedV4}
 use Rattle.tile_stream.specs.declared.tile.Tile.{Tile}
 use Rattle.tile_stream.specs.declared.tile.TileReason.{TileReason}
 use Rattle.tile_stream.specs.Stream.{IsStream}
-use Rattle.tile_stream.specs.Tile.{tile_faults}
+use Rattle.tile_stream.specs.Tile.{IsTile, tile_faults}
 use Rattle.tile_stream.proofs.Tiles.{tile_part}
-use Rattle.tile_stream.proofs.Streams.{GoesOn, goes_on, streams_once}
+use Rattle.tile_stream.proofs.OneBehindAnother.{GoesOn}
+use Rattle.tile_stream.proofs.Streams.{goes_on, streams_once}
 use Rattle.tile_updates.specs.declared.stop.StreamStop.{StreamStop}
 use Rattle.tile_updates.specs.declared.stop.StreamStop.TheVariants.{TooManyTiles, Fault, DepthNeedsV4, TileTooLarge, KeptTooMuch, Source, OutOfMemory}
 use Rattle.tile_updates.specs.Laws.{StopsAreOnce, UpdatesAreOnce, UpdatesOrStop}
@@ -115,7 +116,7 @@ none_beyond : (v : Version) (step : ℕ) (bytes other behind : List ℕ) (others
 none_beyond v step bytes other behind others stop w stream joined pass less =
     at_later on.later on.tiles_are on.stream
   where
-    on : GoesOn w.front w.rest other behind w.tiles others
+    on : GoesOn IsTile w.front w.rest other behind w.tiles others
     on = goes_on w.front w.rest other behind w.tiles others w.stream stream (sym w.joined ∙ joined) (omega (arith, less))
 
     at_later : (later : List Tile) → others ≡ w.tiles ++ later → IsStream on.middle later → ⊥
@@ -132,7 +133,7 @@ alike : (front rest other behind : List ℕ) (tiles others : List Tile) → IsSt
 alike front rest other behind tiles others one two joined same =
     at_later on.later on.tiles_are on.stream
   where
-    on : GoesOn front rest other behind tiles others
+    on : GoesOn IsTile front rest other behind tiles others
     on = goes_on front rest other behind tiles others one two joined (omega (arith, same))
 
     at_later : (later : List Tile) → others ≡ tiles ++ later → IsStream on.middle later → Alike front rest other behind tiles others

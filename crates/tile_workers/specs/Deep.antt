@@ -3,7 +3,7 @@ use Rattle.std.specs.Prelude.{◌≡◌, ℕ, ◌<◌, List, All, Some, slice_ge
 use Rattle.raster_values.specs.Raster.{Pixels}
 use Rattle.lerc_header.specs.declared.header.Version.{Version}
 use Rattle.lerc_encode.specs.Encoded.{BandsNeedV4}
-use Rattle.lerc_encode.specs.declared.blob.EncodeFault.{EncodeFault}
+use Rattle.lerc_encode.specs.declared.blobs.blob.EncodeFault.{EncodeFault}
 use Rattle.tile_workers.specs.declared.workers.NoBlobs.{NoBlobs}
 
 -- a fault of a tile

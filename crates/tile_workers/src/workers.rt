@@ -4,7 +4,7 @@ ghost use Rattle.std.specs.Prelude.{◌≡◌, ◌+◌, ◌*◌, ◌/◌, ◌^�
 ghost use Rattle.std.specs.Thread.{IsSync};
 ghost use Rattle.lerc_encode.specs.Choice.{chosen_bands};
 ghost use Rattle.lerc_encode.specs.Encoded.{AreEncodedOnce, BandsNeedV4, DeclareEach};
-ghost use Rattle.lerc_encode.specs.declared.blob.EncodeFault.{EncodeFault};
+ghost use Rattle.lerc_encode.specs.declared.blobs.blob.EncodeFault.{EncodeFault};
 ghost use Rattle.tile_workers.specs.Deep.{AreFlat, IsFirstDeep, told};
 ghost use Rattle.tile_workers.specs.inside.Encoded.{IsEncodedSo};
 

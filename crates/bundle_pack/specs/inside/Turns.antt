@@ -8,6 +8,7 @@ use Rattle.bundle_store.specs.Recover.{EachStandsForOneOf}
 use Rattle.bundle_store.specs.Session.{Serves, SessionState}
 use Rattle.bundle_store.specs.Tiles.{TileMap}
 use Rattle.opened_bundle.specs.Files.{Files}
+use Rattle.opened_bundle.specs.Left.{IsShut}
 use Rattle.bundle_pack.specs.Files.{files_in}
 use Rattle.bundle_pack.specs.Opening.{AreOpened, IsFirstUnopened, OpeningFails, OpeningFault, OpensAs, StandsLeft}
 use Rattle.bundle_pack.specs.Packing.{EachKeptOr, TargetFault}
@@ -40,6 +41,7 @@ pub record IsTurned {V : Type 0} (told : V → Bool) (history : V → History) (
   pub opens : IsTrue (told old) → OpensAs (files_in (history old)) (contents Bundle (history new))
       × Serves s (contents Bundle (history new))
   pub left : IsTrue (told old) → StandsLeft (history old) (history new)
+  pub shut : IsTrue (told old) → IsShut (current (history new))
 
 -- of the sources, those below a number were opened, and the others are as they were
 pub record IsTurn {V : Type 0} (told : V → Bool) (history : V → History) (faults : V → ℕ)

@@ -1,7 +1,7 @@
 //! The steps of a put: the records behind the bundle's end, the journal, and the header and the
 //! entries over the bundle.
 
-ghost use Rattle.std.specs.Prelude.{◌≡◌, ◌⊎◌, ◌+◌, ◌^◌, ◌∷◌, ◌++◌, ◌≤◌, [], drop, length, IsTrue, OnOk};
+ghost use Rattle.std.specs.Prelude.{◌≡◌, ◌⊎◌, ◌+◌, ◌^◌, ◌∷◌, ◌++◌, ◌≤◌, ℕ, [], drop, length, IsTrue, OnOk};
 ghost use Rattle.outside_io.specs.declared.volume.VolFile.TheVariants.{Bundle, Journal};
 ghost use Rattle.outside_io.specs.volume.Disk.{IsQuiet, settled};
 ghost use Rattle.outside_io.specs.streams.Faults.{CountsFaults};
@@ -12,9 +12,10 @@ ghost use Rattle.side_journal.specs.Groups.{AreNew};
 ghost use Rattle.bundle_store.specs.Build.{EachFits};
 ghost use Rattle.side_journal.specs.Says.{IsOpen, IsWhole};
 ghost use Rattle.bundle_store.specs.GroupPuts.{group_records, with_entries};
-ghost use Rattle.bundle_store.specs.inside.Grouped.{AreUnderWay, EachUnderAll, IsOfGroup};
+ghost use Rattle.bundle_store.specs.inside.Grouped.{AreUnderWay, EachUnderAll, IsOfGroup, SaysThese};
 ghost use Rattle.bundle_store.specs.LaidOver.{size_in, with_body};
 ghost use Rattle.bundle_store.specs.Images.{EachImage};
+ghost use Rattle.bundle_store.specs.Recover.{EachOnTheWay};
 ghost use Rattle.bundle_store.specs.Tiles.{IsBundle, IsReadable, tiles};
 ghost use Rattle.bundle_store.specs.inside.Parts.{IsIdle};
 ghost use Rattle.bundle_store.specs.Told.{Changes};
@@ -53,6 +54,11 @@ pub(crate) fn redo<V: Volume>(
     }) }
     ensures bytes { IsTrue (V.told vol.old) → During (EachUnderAll header.now group.now
         (contents Bundle (V.history vol.old))) (V.history vol.old) (V.history vol.new) }
+    ensures files { IsTrue (V.told vol.old) → (size place : ℕ)
+        → SaysThese (contents Journal (V.history vol.old)) group.now header.now size place
+        → size ≤ length (contents Bundle (V.history vol.old))
+        → During (EachOnTheWay (contents Bundle (V.history vol.old)) (contents Journal
+        (V.history vol.old))) (V.history vol.old) (V.history vol.new) }
     ensures changes { Changes V.told V.history V.faults (CountsFaults result)
         (λ old d. AreUnderWay old.bundle.now old.journal.now group.now header.now
         → EachImage (λ map. map ≡ tiles (with_entries header.now group.now old.bundle.now)) d)

@@ -280,9 +280,9 @@ pub(crate) fn table_for(codes: &Codes, count: usize) -> [Entry; 2048]
     ensures short { All IsShort result }
     ensures are { AreEntries codes.now result }
 {
-    if count < 512 {
+    if count < 256 {
         no_entries()
-    } else if count < 8192 {
+    } else if count < 5000 {
         single_symbols(codes)
     } else {
         entries_of(codes)

@@ -14,10 +14,11 @@ use Rattle.bundle_store.specs.Layout.{layout}
 use Rattle.bundle_store.specs.Session.{IsReadyToPut, SessionState}
 use Rattle.bundle_store.specs.Tiles.{IsReadable, TileMap, tiles}
 use Rattle.bundle_lines.specs.declared.stop.BuildStop.TheVariants.{Output as BuildOutput, Volume as BuildVolume, NotEmpty as BuildNotEmpty, OutOfMemory as BuildMemory}
-use Rattle.bundle_lines.specs.Builds.{BuildEnd, BuildGave, BuildKeeps, BuildMarks, BuildReads, KeepsSomeLength, OnBuildAnswer, OnNoBuild, built_line_of}
+use Rattle.bundle_lines.specs.Builds.{BuildEnd, BuildGave, BuildKeeps, BuildKeepsFrom, BuildMarks, BuildReads, KeepsSomeLength, OnBuildAnswer, OnNoBuild, built_line_of}
 use Rattle.bundle_lines.specs.Puts.{AreMarks}
 use Rattle.bundle_lines.proofs.Marked.{no_marks}
-use Rattle.bundle_lines.proofs.Raised.{builds_join, equal_marks}
+use Rattle.bundle_lines.proofs.Kept.{build_from}
+use Rattle.bundle_lines.proofs.Raised.{equal_marks}
 use Rattle.tile_updates.specs.declared.stop.StreamStop.{StreamStop}
 use Rattle.tile_updates.specs.declared.stop.StreamStop.TheVariants.{TooManyTiles as ManyTiles, Fault as TileFaultOf, DepthNeedsV4 as DeepTile, TileTooLarge as LargeTile, KeptTooMuch as MuchKept, Source as StreamSource, OutOfMemory as StreamMemory}
 use Rattle.program_ends.specs.Moves.{sink_move, volume_move}
@@ -37,13 +38,12 @@ use Rattle.opened_bundle.specs.Left.{IsReady, IsShut, OfReading}
 use Rattle.lerc_cli.specs.crashes.Phase.{Updated, UpdatesComeTo}
 use Rattle.opened_bundle.specs.Opening.{IsOpened, OpeningStops}
 use Rattle.lerc_cli.specs.inside.Updates.{build_end_of}
-use Rattle.opened_bundle.proofs.BundleOpening.{of_bundle, reads_on}
+use Rattle.opened_bundle.proofs.BundleOpening.{keeps_start, of_bundle, reads_on}
 use Rattle.opened_bundle.specs.declared.refusal.StoreRefusal.{StoreRefusal}
 use Rattle.lerc_cli.specs.inside.Opening.{of_store}
 use Rattle.lerc_cli.proofs.AnswerLemmas.Outputs.{stopped}
 use Rattle.opened_bundle.proofs.Resting.{shut_ready}
 use Rattle.lerc_cli.proofs.CrashLemmas.Unopened.{stopped_volume}
-use Rattle.bundle_store.proofs.Standing.{closed_map}
 use Rattle.lerc_cli.proofs.CrashLemmas.PutRuns.{earlier_marks, early_not_output, joined_cause, not_output}
 
 -- ---- the input has no updates, or memory was refused before the volume was called
@@ -153,13 +153,11 @@ module _ (v : Version) (e w : ℕ) (g : Given) (failed : Type 0) (V : Type 0) (t
     (tells : told new ≡ told mid) (later : IsTrue (told mid) → (history mid).moment ≤ (history new).moment) where
   -- what stands at each moment, where updates may be done
   built_tiles : (marks : List ℕ) → (IsTrue (told mid) → IsReadable (contents Bundle (history mid)) → BuildKeeps (tiles (contents Bundle (history mid))) us marks (history mid) (history new)) → AreMarks marks (history mid).moment (history new).moment
-      → (start : TileMap) → IsReady (told vol) (history vol) start → BuildKeeps start us marks (history vol) (history new)
+      → (start : TileMap) → IsReady (told vol) (history vol) start → BuildKeepsFrom start us marks (history vol) (history new)
   built_tiles marks images are start ready =
       let o = opened ready.tells in
-      let stands = o.recovered.same start ready.stands in
-      let map = closed_map (contents Bundle (history mid)) (contents Journal (history mid)) stands.state start o.recovered.closed stands.says stands.shows in
       let t = so.told ∙ ready.tells in
-      builds_join start us marks (history vol) (history mid) (history new) are (so.tiles start ready) (subst (λ (m : TileMap). BuildKeeps m us marks (history mid) (history new)) (sym map.1) (images t map.0))
+      build_from us marks start (history vol) (history mid) (history new) ready.stands (keeps_start failed (volume_move told history faults vol mid) so ready.tells ready.sound) o.recovered are (images t)
 
   -- nothing more was done
   on : (stop : Stop Refusal) → IsCause (stop ≡ Volume) (faults mid) (faults new) → (IsTrue (told mid) → During (λ d. d ≡ current (history mid)) (history mid) (history new)) → OfReading (stop ≡ Volume) (volume_move told history faults vol new)

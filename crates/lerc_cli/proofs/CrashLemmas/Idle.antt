@@ -1,11 +1,9 @@
 -- An object that a command does not touch is left as its contract says.
-use Rattle.std.proofs.Common.{◌≡◌, ℕ, List, [], Option, Bool, Err, inl, refl, sym, subst, arith}
+use Rattle.std.proofs.Common.{◌≡◌, ℕ, List, [], Option, Bool, Err, refl, subst, arith}
 use Rattle.std.specs.Prelude.{IsTrue, IsFalse}
 use Rattle.outside_io.specs.declared.volume.VolFile.TheVariants.{Bundle, Journal}
 use Rattle.outside_io.specs.volume.History.{History, contents, current}
-use Rattle.outside_io.proofs.VolumeLemmas.Images.{only_image}
-use Rattle.outside_io.proofs.VolumeLemmas.Moments.{during_map_at, started}
-use Rattle.bundle_store.specs.Images.{EachImage, Shows, StandsFor}
+use Rattle.bundle_store.specs.Starts.{KeepsStart}
 use Rattle.bundle_store.specs.Tiles.{TileMap}
 use Rattle.program_ends.specs.Moves.{SinkMove, VolumeMove, source_move, volume_move}
 use Rattle.lerc_cli.specs.declared.words.Command.{Command}
@@ -16,79 +14,49 @@ use Rattle.lerc_cli.specs.answers.Names.{End}
 use Rattle.lerc_cli.specs.inputs.Given.{Given}
 use Rattle.lerc_cli.specs.answers.Table.{Answers}
 use Rattle.lerc_cli.specs.run.Run.{MarksAt, OfOutput, OfSource, OfVolume, TakesFor}
-use Rattle.opened_bundle.specs.Left.{IsLeft, IsReady, KeepsStart, OfReading}
-use Rattle.lerc_cli.specs.crashes.Kept.{KeepsTiles}
+use Rattle.opened_bundle.specs.Left.{IsReady, OfReading}
+use Rattle.opened_bundle.proofs.BundleOpening.{keeps_start}
+use Rattle.opened_bundle.proofs.Standing.{idle_keeps, left_by}
+use Rattle.lerc_cli.specs.crashes.Kept.{KeepsTiles, RestsKeepOneMap}
 use Rattle.lerc_cli.specs.crashes.Phase.{Phase, NotCalled, Recovered, ComesTo, Rests, UpdatesComeTo}
-use Rattle.outside_io.specs.volume.Disk.{Disk}
 use Rattle.bundle_store.specs.declared.tile_rec.TileRec.{TileRec}
-use Rattle.bundle_lines.specs.Builds.{BuildKeeps, IsAllOrNone}
-use Rattle.side_journal.specs.Says.{Says}
-use Rattle.side_journal.specs.declared.body.Body.{Body}
-use Rattle.side_journal.specs.declared.body.Body.TheVariants.{Tile, Build as Nothing, Group}
-use Rattle.side_journal.specs.declared.body.JournalState.{JournalState}
-use Rattle.side_journal.specs.declared.body.JournalState.TheVariants.{Closed, Open, Bad}
-use Rattle.bundle_store.specs.LaidOver.{with_body}
-use Rattle.bundle_store.specs.declared.recovery.Recovery.TheVariants.{Closed as RecoveredClosed, Applied, Emptied}
-use Rattle.bundle_lines.specs.Puts.{IsAfterSome, PutsKeep}
+use Rattle.bundle_lines.proofs.Kept.{build_at_rest, build_unmarked, puts_at_rest, puts_unmarked, start_at_rest}
 use Rattle.bundle_lines.proofs.Marked.{no_groups, no_marks}
 
 -- no test is both
 pub clash : (b : Bool) → IsTrue b → IsFalse b → ⊥
 clash b yes_ no_ = cc
 
--- before the first call the one image stands for what stood at the start
-pub stays : (start : TileMap) (told : Bool) (h : History) → IsReady told h start → KeepsStart start h h
-stays start told h ready = started (EachImage (λ map. map ≡ start)) h (λ b j ib ij.
-    let bundle : b ≡ contents Bundle h = only_image (current h).bundle b ready.quiet.bundle ib in
-    let journal : j ≡ contents Journal h = only_image (current h).journal j ready.quiet.journal ij in
-    record {
-      map = start;
-      stands = subst (λ (l : List ℕ). StandsFor l j start) (sym bundle) (subst (λ (l : List ℕ). StandsFor (contents Bundle h) l start) (sym journal) ready.stands);
-      passes = refl;
-    })
-
--- a map that is the one at the start is one after no updates
-none_put : (b : List ℕ) (us : List TileRec) (start : TileMap) (t : ℕ) (d : Disk) → EachImage (λ map. map ≡ start) d → EachImage (IsAfterSome b start us [] t) d
-none_put b us start t d each = λ c j ic ij. let is = each c j ic ij in record { map = is.map; stands = is.stands; passes = record { count = 0; count_is = inl refl; map_is = is.passes } }
-
-keeps_unmarked : (b : List ℕ) (us : List TileRec) (start : TileMap) (old new : History) → KeepsStart start old new → PutsKeep b start us [] old new
-keeps_unmarked b us start old new kept = during_map_at (λ _ d. EachImage (λ map. map ≡ start) d) (λ t d. EachImage (IsAfterSome b start us [] t) d) old new (λ t d _ _ each. none_put b us start t d each) kept
-
--- files that stand for a map recover to a bundle
-recovers_to : (b j : List ℕ) (state : JournalState) (map : TileMap) → Says j state → Shows state b map → (left : List ℕ) × IsLeft b j left
-recovers_to b j Closed map says shows = (b, inl (RecoveredClosed, (says, refl)))
-recovers_to b j (Open Nothing) map says shows = ([], inl (Emptied, (says.0, says.1, refl)))
-recovers_to b j (Open (Tile slot entry size header)) map says shows =
-    let body : Body = Tile slot entry size header in
-    (with_body body b, inl (Applied, (record { opened = says.0; body = body; says = says.1; tiles = tt; within = shows.0 }, refl)))
-recovers_to b j (Open (Group entries size header)) map says shows =
-    let body : Body = Group entries size header in
-    (with_body body b, inl (Applied, (record { opened = says.0; body = body; says = says.1; tiles = tt; within = shows.0 }, refl)))
-recovers_to b j (Bad place found) map says shows = absurd shows
-
--- the same of a build
-none_built : (us : List TileRec) (start : TileMap) (t : ℕ) (d : Disk) → EachImage (λ map. map ≡ start) d → EachImage (IsAllOrNone start us [] t) d
-none_built us start t d each = λ b j ib ij. let is = each b j ib ij in record { map = is.map; stands = is.stands; passes = record { count = 0; least = omega arith; either = inl refl; map_is = is.passes } }
-
-pub keeps_unbuilt : (us : List TileRec) (start : TileMap) (old new : History) → KeepsStart start old new → BuildKeeps start us [] old new
-keeps_unbuilt us start old new kept = during_map_at (λ _ d. EachImage (λ map. map ≡ start) d) (λ t d. EachImage (IsAllOrNone start us [] t) d) old new (λ t d _ _ each. none_built us start t d each) kept
-
 -- none of these updates has a mark
-pub keeps_without_marks : (c : Command) (us : List TileRec) (start : TileMap) (told : Bool) (old new : History) → IsReady told old start → KeepsStart start old new → KeepsTiles c us [] start old new
+pub keeps_without_marks : (c : Command) (us : List TileRec) (start : TileMap) (told : Bool) (old new : History) → IsReady told old start → KeepsStart old new → KeepsTiles c us [] start old new
 keeps_without_marks (Encode version error) us start told old new ready kept = kept
 keeps_without_marks Decode us start told old new ready kept = kept
 keeps_without_marks Info us start told old new ready kept = kept
-keeps_without_marks (Build version error workers) us start told old new ready kept = keeps_unbuilt us start old new kept
+keeps_without_marks (Build version error workers) us start told old new ready kept = build_unmarked start us old new kept
 keeps_without_marks (Put version error workers) us start told old new ready kept =
     let stands = ready.stands in
-    let left = recovers_to (contents Bundle old) (contents Journal old) stands.state start stands.says stands.shows in
-    (left.0, (left.1, no_groups left.0 us, keeps_unmarked left.0 us start old new kept))
+    let left = left_by (contents Bundle old) (contents Journal old) stands.state start stands.says stands.shows in
+    (left.0, (left.1, no_groups left.0 us, puts_unmarked left.0 start us old new kept))
 keeps_without_marks (Get slot) us start told old new ready kept = kept
 keeps_without_marks (GetRaw slot) us start told old new ready kept = kept
 keeps_without_marks ListAll us start told old new ready kept = kept
 keeps_without_marks Check us start told old new ready kept = kept
 keeps_without_marks Recover us start told old new ready kept = kept
 keeps_without_marks (Sample first count) us start told old new ready kept = kept
+
+-- nothing is pending at the start
+pub keeps_from_rest : RestsKeepOneMap
+keeps_from_rest (Encode version error) told us marks start old new quiet ready kept = start_at_rest start old new quiet ready.stands kept
+keeps_from_rest Decode told us marks start old new quiet ready kept = start_at_rest start old new quiet ready.stands kept
+keeps_from_rest Info told us marks start old new quiet ready kept = start_at_rest start old new quiet ready.stands kept
+keeps_from_rest (Build version error workers) told us marks start old new quiet ready kept = build_at_rest start old new quiet ready.stands us marks kept
+keeps_from_rest (Put version error workers) told us marks start old new quiet ready kept = (kept.0, (kept.1.0, kept.1.1, puts_at_rest start old new quiet ready.stands kept.0 us marks kept.1.2))
+keeps_from_rest (Get slot) told us marks start old new quiet ready kept = start_at_rest start old new quiet ready.stands kept
+keeps_from_rest (GetRaw slot) told us marks start old new quiet ready kept = start_at_rest start old new quiet ready.stands kept
+keeps_from_rest ListAll told us marks start old new quiet ready kept = start_at_rest start old new quiet ready.stands kept
+keeps_from_rest Check told us marks start old new quiet ready kept = start_at_rest start old new quiet ready.stands kept
+keeps_from_rest Recover told us marks start old new quiet ready kept = start_at_rest start old new quiet ready.stands kept
+keeps_from_rest (Sample first count) told us marks start old new quiet ready kept = start_at_rest start old new quiet ready.stands kept
 
 -- how far a command comes that does not call the volume, that reads the bundle, or that makes updates
 idle_comes : (c : Command) (end : End) → IsFalse (calls_volume c) → ComesTo c end NotCalled
@@ -157,7 +125,7 @@ untouched c g end V told history faults vol comes well = record {
   phase = NotCalled;
   comes = comes;
   left = refl;
-  tiles = λ start ready. ([], ((NotCalled, (comes, refl)), keeps_without_marks c [] start (told vol) (history vol) (history vol) ready (stays start (told vol) (history vol) ready)));
+  tiles = λ start ready. ([], ((NotCalled, (comes, refl)), keeps_without_marks c [] start (told vol) (history vol) (history vol) ready (idle_keeps (history vol) ready.sound)));
 }
 
 -- the volume of a command that does not call it
@@ -181,7 +149,7 @@ recovered_volume c g end vol comes so rests = record {
   phase = Recovered;
   comes = comes;
   left = λ tells well. record { reads = so.reads tells well; rests = rests tells };
-  tiles = λ start ready. ([], ((Recovered, (comes, refl)), keeps_without_marks c [] start vol.told.old vol.history.old vol.history.new ready (so.tiles start ready)));
+  tiles = λ start ready. ([], ((Recovered, (comes, refl)), keeps_without_marks c [] start vol.told.old vol.history.old vol.history.new ready (keeps_start (end ≡ Err Volume) vol so ready.tells ready.sound)));
 }
 
 -- the volume of a command that reads the bundle

@@ -12,13 +12,12 @@ use Rattle.lerc_header.specs.Written.{step_of}
 use Rattle.bundle_store.specs.declared.tile_rec.TileRec.{TileRec}
 use Rattle.bundle_store.specs.Images.{HoldsClosed}
 use Rattle.bundle_store.specs.Session.{SessionState}
-use Rattle.bundle_store.specs.Tiles.{TileMap, tiles}
-use Rattle.bundle_store.proofs.Standing.{closed_map}
+use Rattle.bundle_store.specs.Tiles.{tiles}
 use Rattle.bundle_lines.specs.declared.stop.PutStop.TheVariants.{Output as PutOutput, Volume as PutVolume, Full as PutFull}
 use Rattle.bundle_lines.specs.Gave.{PutEnd, PutGave, UnlessVolume}
 use Rattle.bundle_lines.specs.Lines.{put_lines}
-use Rattle.bundle_lines.specs.Puts.{AreMarks, EndsByRoom, HaveRoom, IsFirstFull, KeepsFullLength, PutsKeep, PutsLeave, bundle_after_puts}
-use Rattle.bundle_lines.proofs.Marked.{puts_join}
+use Rattle.bundle_lines.specs.Puts.{AreMarks, EndsByRoom, HaveRoom, IsFirstFull, KeepsFullLength, PutsLeave, bundle_after_puts}
+use Rattle.bundle_lines.proofs.Kept.{puts_from}
 use Rattle.tile_updates.specs.declared.stop.StreamStop.{StreamStop}
 use Rattle.tile_updates.specs.declared.stop.StreamStop.TheVariants.{TooManyTiles as ManyTiles, Fault as TileFaultOf, DepthNeedsV4 as DeepTile, TileTooLarge as LargeTile, KeptTooMuch as MuchKept, Source as StreamSource, OutOfMemory as StreamMemory}
 use Rattle.program_ends.specs.Moves.{Change, SinkMove, sink_move, volume_move}
@@ -37,7 +36,7 @@ use Rattle.opened_bundle.specs.Left.{OfReading}
 use Rattle.lerc_cli.specs.crashes.Phase.{Updated, UpdatesComeTo}
 use Rattle.opened_bundle.specs.Opening.{IsOpened, OpeningStops}
 use Rattle.lerc_cli.specs.inside.Updates.{put_end_of}
-use Rattle.opened_bundle.proofs.BundleOpening.{failed_later, of_bundle}
+use Rattle.opened_bundle.proofs.BundleOpening.{failed_later, keeps_start, of_bundle}
 use Rattle.opened_bundle.specs.declared.refusal.StoreRefusal.{StoreRefusal}
 use Rattle.lerc_cli.specs.inside.Opening.{of_store}
 use Rattle.lerc_cli.proofs.AnswerLemmas.Stores.{store_output, store_source}
@@ -232,8 +231,6 @@ put_all_volume v e w g failed V told history faults vol mid new s us marks r of 
       };
   tiles = λ start ready.
       let o = opened ready.tells in
-      let stands = o.recovered.same start ready.stands in
-      let map = closed_map (contents Bundle (history mid)) (contents Journal (history mid)) stands.state start o.recovered.closed stands.says stands.shows in
       let t = so.told ∙ ready.tells in (
         us,
         (
@@ -243,8 +240,8 @@ put_all_volume v e w g failed V told history faults vol mid new s us marks r of 
             (
               inl (o.done, o.leaves),
               (leaves t).groups,
-              puts_join (contents Bundle (history mid)) start us marks (history vol) (history mid) (history new) (leaves t).marks_are (so.tiles start ready)
-                  (subst (λ (m : TileMap). PutsKeep (contents Bundle (history mid)) m us marks (history mid) (history new)) (sym map.1) ((leaves t).images map.0)),
+              puts_from us marks start (history vol) (history mid) (history new) ready.stands (keeps_start failed (volume_move told history faults vol mid) so ready.tells ready.sound)
+                  o.recovered (leaves t).marks_are (leaves t).images,
             ),
           ),
         ),

@@ -53,6 +53,10 @@ rests_undecoded tile OutOfMemory journal d is shut = shut
 rests_undecoded tile (Refused (Store refusal)) journal d is shut = absurd is
 rests_undecoded tile (Refused (Stream refusal)) journal d is shut = absurd is
 
+-- a tile that does not decode is no failure of the volume
+pub undecoded_alone : (tile : List ℕ) (s : Stop Refusal) → DecodesTile tile (Err s) → s ≡ Volume → ⊥
+undecoded_alone tile s is same = subst (λ (x : Stop Refusal). DecodesTile tile (Err x)) same is
+
 pub rests_lines : (r : LineEnd) (journal : List ℕ) (d : Disk) → IsShut d → Rests (end_of r) journal d
 rests_lines (Ok x) journal d shut = shut
 rests_lines (Err LineOutput) journal d shut = shut

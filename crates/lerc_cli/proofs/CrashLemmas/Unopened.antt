@@ -26,7 +26,7 @@ use Rattle.opened_bundle.specs.Left.{OfReading}
 use Rattle.lerc_cli.specs.crashes.Phase.{Phase, NotCalled, Recovered, Updated, ComesTo, RestsBehind, UpdatesComeTo}
 use Rattle.opened_bundle.specs.Opening.{OpeningStops}
 use Rattle.opened_bundle.specs.Left.{RestsBehind as RestsUnopened}
-use Rattle.opened_bundle.proofs.BundleOpening.{reads_as}
+use Rattle.opened_bundle.proofs.BundleOpening.{keeps_start, reads_as}
 use Rattle.lerc_cli.specs.inside.Opening.{of_store}
 use Rattle.lerc_cli.proofs.CrashLemmas.Idle.{keeps_without_marks, none_at, recovered_volume, untouched, updating_comes}
 
@@ -78,7 +78,7 @@ module _ (c : Command) (g : Given) (makes : IsTrue (makes_updates c)) where
     phase = Updated;
     comes = begun;
     left = λ t well. absurd (well refl);
-    tiles = λ start ready. (us, ((Updated, (begun, of)), keeps_without_marks c us start vol.told.old vol.history.old vol.history.new ready (so.tiles start ready)));
+    tiles = λ start ready. (us, ((Updated, (begun, of)), keeps_without_marks c us start vol.told.old vol.history.old vol.history.new ready (keeps_start (◌≡◌ {A = Stop StoreRefusal} Volume Volume) vol so ready.tells ready.sound)));
   }
     where
       begun : ComesTo c (Err Volume) Updated

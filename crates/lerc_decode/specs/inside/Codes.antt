@@ -1,5 +1,5 @@
 -- Reading codes, and what symbols leave in the raster.
-use Rattle.std.specs.Prelude.{ℕ, Bool, List}
+use Rattle.std.specs.Prelude.{ℕ, ◌≤◌, Bool, List}
 use Rattle.first_fault.specs.Faults.{Faults, in_order, ends}
 use Rattle.raster_values.specs.Raster.{Pixels}
 use Rattle.huff_codes.specs.Table.{IsCoding}
@@ -14,10 +14,12 @@ use Rattle.lerc_grammar.specs.Codes.{AreAllDeltas}
 use Rattle.lerc_grammar.specs.Image.{value_count}
 use Rattle.lerc_decode.specs.inside.Body.{IsMarkedAs}
 
--- a raster of bytes that may be filled, as many of whose pixels are valid as the header says
+-- a raster of bytes that may be filled, as many of whose pixels are valid as the header says, and
+-- of as many values as a raster may have
 pub record IsCodedAs (h : Header) (r : Pixels) : Type 0 where
   pub marked : IsMarkedAs h r
   pub byte : IsByteType h.kind
+  pub few : value_count h ≤ 16777216
 
 -- what is wrong first with the words of n symbols: they themselves, or bytes behind them
 abbrev pub words_faults : List (List Bool) → ℕ → List ℕ → Faults BlobReason

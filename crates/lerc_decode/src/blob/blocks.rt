@@ -61,7 +61,6 @@ fn read_one<T: Target>(
         (block_number blocks.now.header.now a b d + 1) next (T.pixels raster.new)) }
     ensures fault { IfErr result
         (IsBlockFault blocks.now (marks_of (T.pixels raster.old))) }
-    ensures near { IfErr result (λ f. f.place ≤ length blocks.now.rest.now) }
     ensures frame { KeepsFrame (T.pixels raster.old) (T.pixels raster.new)
         (T.kept raster.old) (T.kept raster.new) }
 {
@@ -105,7 +104,6 @@ fn read_depths<T: Target>(
         (block_number blocks.now.header.now a (b + 1) 0) next (T.pixels raster.new)) }
     ensures fault { IfErr result
         (IsBlockFault blocks.now (marks_of (T.pixels raster.old))) }
-    ensures near { IfErr result (λ f. f.place ≤ length blocks.now.rest.now) }
     ensures frame { KeepsFrame (T.pixels raster.old) (T.pixels raster.new)
         (T.kept raster.old) (T.kept raster.new) }
 {
@@ -123,19 +121,17 @@ fn read_square<T: Target>(
     from: usize,
     a: u32,
     b: u32,
-    room: &mut [u32],
+    room: &mut [u32; 1024],
     raster: &mut T,
 ) -> Result<usize, BlobFault>
     requires square { IsSquare blocks.now.header.now a b }
     requires shaped { IsShapedAs blocks.now.header.now (T.pixels raster.old) }
-    requires room { length room.old ≡ 1024 }
     requires read { AreRead blocks.now (marks_of (T.pixels raster.old))
         (block_number blocks.now.header.now a b 0) from (T.pixels raster.old) }
     ensures ok { IfOk result (λ next. AreRead blocks.now (marks_of (T.pixels raster.old))
         (block_number blocks.now.header.now a (b + 1) 0) next (T.pixels raster.new)) }
     ensures fault { IfErr result
         (IsBlockFault blocks.now (marks_of (T.pixels raster.old))) }
-    ensures near { IfErr result (λ f. f.place ≤ length blocks.now.rest.now) }
     ensures frame { KeepsFrame (T.pixels raster.old) (T.pixels raster.new)
         (T.kept raster.old) (T.kept raster.new) }
 {
@@ -159,19 +155,17 @@ fn read_row<T: Target>(
     blocks: &ImageBlocks,
     from: usize,
     a: u32,
-    room: &mut [u32],
+    room: &mut [u32; 1024],
     raster: &mut T,
 ) -> Result<usize, BlobFault>
     requires row { a < blocks_down blocks.now.header.now }
     requires shaped { IsShapedAs blocks.now.header.now (T.pixels raster.old) }
-    requires room { length room.old ≡ 1024 }
     requires read { AreRead blocks.now (marks_of (T.pixels raster.old))
         (block_number blocks.now.header.now a 0 0) from (T.pixels raster.old) }
     ensures ok { IfOk result (λ next. AreRead blocks.now (marks_of (T.pixels raster.old))
         (block_number blocks.now.header.now (a + 1) 0 0) next (T.pixels raster.new)) }
     ensures fault { IfErr result
         (IsBlockFault blocks.now (marks_of (T.pixels raster.old))) }
-    ensures near { IfErr result (λ f. f.place ≤ length blocks.now.rest.now) }
     ensures frame { KeepsFrame (T.pixels raster.old) (T.pixels raster.new)
         (T.kept raster.old) (T.kept raster.new) }
 {
@@ -185,17 +179,15 @@ fn read_row<T: Target>(
 /// Reads all blocks, and answers the place behind them.
 fn read_rows<T: Target>(
     blocks: &ImageBlocks,
-    room: &mut [u32],
+    room: &mut [u32; 1024],
     raster: &mut T,
 ) -> Result<usize, BlobFault>
     requires shaped { IsShapedAs blocks.now.header.now (T.pixels raster.old) }
-    requires room { length room.old ≡ 1024 }
     ensures ok { IfOk result (λ next. AreRead blocks.now (marks_of (T.pixels raster.old))
         (block_number blocks.now.header.now (blocks_down blocks.now.header.now) 0 0) next
         (T.pixels raster.new)) }
     ensures fault { IfErr result
         (IsBlockFault blocks.now (marks_of (T.pixels raster.old))) }
-    ensures near { IfErr result (λ f. f.place ≤ length blocks.now.rest.now) }
     ensures frame { KeepsFrame (T.pixels raster.old) (T.pixels raster.new)
         (T.kept raster.old) (T.kept raster.new) }
 {

@@ -93,7 +93,6 @@ fn scatter_delta_words<T: Target>(
     raster: &mut T,
 ) -> Result<(), BlobFault>
     requires coded { IsCodedAs header.now (T.pixels raster.old) }
-    requires values { value_count header.now ≤ 16777216 }
     requires few { place + length rest.now < 2 ^ 62 }
     ensures ok { OnOk result ((symbols : List ℕ)
         × (AreWords codes.now (value_count header.now) rest.now symbols
@@ -119,7 +118,6 @@ pub(crate) fn scatter_deltas<T: Target>(
     raster: &mut T,
 ) -> Result<(), BlobFault>
     requires coded { IsCodedAs header.now (T.pixels raster.old) }
-    requires values { value_count header.now ≤ 16777216 }
     requires few { place + length rest.now < 2 ^ 62 }
     ensures ok { OnOk result (HasDeltas header.now rest.now (T.pixels raster.new)) }
     ensures fault { IfErr result (λ fault. IsFaultIn
@@ -167,7 +165,6 @@ fn scatter_plain_words<T: Target>(
     raster: &mut T,
 ) -> Result<(), BlobFault>
     requires coded { IsCodedAs header.now (T.pixels raster.old) }
-    requires values { value_count header.now ≤ 16777216 }
     requires few { place + length rest.now < 2 ^ 62 }
     ensures ok { OnOk result ((symbols : List ℕ)
         × (AreWords codes.now (value_count header.now) rest.now symbols
@@ -192,7 +189,6 @@ pub(crate) fn scatter_plain<T: Target>(
     raster: &mut T,
 ) -> Result<(), BlobFault>
     requires coded { IsCodedAs header.now (T.pixels raster.old) }
-    requires values { value_count header.now ≤ 16777216 }
     requires few { place + length rest.now < 2 ^ 62 }
     ensures ok { OnOk result (HasPlain header.now rest.now (T.pixels raster.new)) }
     ensures fault { IfErr result (λ fault. IsFaultIn

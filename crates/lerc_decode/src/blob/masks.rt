@@ -29,7 +29,6 @@ pub(crate) fn bits_of_runs(
     requires pixels { header.now.rows * header.now.cols ≤ 16777216 }
     requires room { length bits.old ≡ mask_size (header.now.rows * header.now.cols) }
     requires few { place + length runs.now < 2 ^ 62 }
-    ensures room { length bits.new ≡ length bits.old }
     ensures ok { OnOk result (IsMarkedBy (header.now.rows * header.now.cols) header.now.valid
         runs.now (marks_in (header.now.rows * header.now.cols) bits.new)) }
     ensures spare { OnOk result ((k : ℕ) → header.now.rows * header.now.cols ≤ k
@@ -60,7 +59,6 @@ fn bits_before(before: &Option<PreviousMask>, header: &Header, bits: &mut [u8])
     requires count { count_before (marks_for before.now header.now) ≡ Some header.now.valid }
     requires pixels { header.now.rows * header.now.cols ≤ 16777216 }
     requires room { length bits.old ≡ mask_size (header.now.rows * header.now.cols) }
-    ensures room { length bits.new ≡ length bits.old }
     ensures marks { marks_for before.now header.now
         ≡ Some (marks_in (header.now.rows * header.now.cols) bits.new) }
     ensures spare { (k : ℕ) → header.now.rows * header.now.cols ≤ k
@@ -80,7 +78,6 @@ pub(crate) fn mask_bits(
 ) -> Result<(), BlobFault>
     requires form { IsMaskFormFor before.now blob.now.header blob.now.bytes.now form.now }
     requires room { length bits.old ≡ mask_size (blob.now.header.rows * blob.now.header.cols) }
-    ensures room { length bits.new ≡ length bits.old }
     ensures ok { OnOk result (IsMaskAfter (marks_for before.now blob.now.header)
         (blob.now.header.rows * blob.now.header.cols) blob.now.header.valid
         (take (image_place blob.now.header form.now - head_length blob.now.header.version)

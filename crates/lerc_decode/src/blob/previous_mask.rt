@@ -89,7 +89,6 @@ impl PreviousMask {
         requires cols { self.now.cols ≡ header.now.cols }
         requires pixels { header.now.rows * header.now.cols ≤ 16777216 }
         requires room { length bits.old ≡ mask_size (header.now.rows * header.now.cols) }
-        ensures room { length bits.new ≡ length bits.old }
         ensures marks { marks_in (header.now.rows * header.now.cols) bits.new ≡ self.now.marks }
         ensures spare { (k : ℕ) → header.now.rows * header.now.cols ≤ k
             → mask_bit bits.new k ≡ false }

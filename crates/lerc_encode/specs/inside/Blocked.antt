@@ -11,9 +11,9 @@ use Rattle.micro_block.specs.ChosenBlock as micro
 use Rattle.micro_block.specs.ChosenBlock.{block_bytes, chosen_form}
 use Rattle.lerc_grammar.specs.Blocks.{block_col, block_depth, block_row, coded_blocks, coded_values}
 use Rattle.lerc_encode.specs.Images.{blocks_bytes}
-use Rattle.lerc_encode.specs.declared.blocks.BlockAt.{BlockAt}
-use Rattle.lerc_encode.specs.declared.blocks.Measured.{Measured}
-use Rattle.lerc_encode.specs.declared.flags.Flags.{Flags}
+use Rattle.lerc_encode.specs.declared.blocks.chosen_blocks.BlockAt.{BlockAt}
+use Rattle.lerc_encode.specs.declared.blocks.chosen_blocks.Measured.{Measured}
+use Rattle.lerc_encode.specs.declared.blocks.flags.Flags.{Flags}
 use Rattle.lerc_encode.specs.inside.Flags.{IsMarked, room_of}
 
 -- it is the raster's, with a side from 1 to 16 and a step

@@ -13,15 +13,15 @@ use Rattle.lerc_encode.specs.inside.Coded.{AreCodings}
 use Rattle.lerc_encode.specs.inside.Blocked.{IsMeasured}
 use Rattle.lerc_encode.specs.Images as images
 use Rattle.lerc_encode.specs.Images.{CodedForm, chosen_coded_form, coded_form_bytes, tail}
-use Rattle.lerc_encode.specs.declared.forms.ValueForm.{ValueForm}
-use Rattle.lerc_encode.specs.declared.forms.ValueForm.TheVariants.{Sweep, SmallBlocks, LargeBlocks}
-use Rattle.lerc_encode.specs.declared.forms.ValueForm.TheVariants.{Delta, Plain}
-use Rattle.lerc_encode.specs.declared.blocks.Measured.{Measured}
-use Rattle.lerc_encode.specs.declared.forms.Chosen.{Chosen}
-use Rattle.lerc_encode.specs.declared.choosing.Tail.{Tail}
-use Rattle.lerc_encode.specs.declared.choosing.Tail.TheVariants.{Empty, Constant}
-use Rattle.lerc_encode.specs.declared.choosing.Tail.TheVariants.{Ranges as EqualRanges, Coded}
-use Rattle.lerc_encode.specs.declared.ranging.Ranges.{Ranges}
+use Rattle.lerc_encode.specs.declared.image.forms.ValueForm.{ValueForm}
+use Rattle.lerc_encode.specs.declared.image.forms.ValueForm.TheVariants.{Sweep, SmallBlocks, LargeBlocks}
+use Rattle.lerc_encode.specs.declared.image.forms.ValueForm.TheVariants.{Delta, Plain}
+use Rattle.lerc_encode.specs.declared.blocks.chosen_blocks.Measured.{Measured}
+use Rattle.lerc_encode.specs.declared.image.forms.Chosen.{Chosen}
+use Rattle.lerc_encode.specs.declared.image.choosing.Tail.{Tail}
+use Rattle.lerc_encode.specs.declared.image.choosing.Tail.TheVariants.{Empty, Constant}
+use Rattle.lerc_encode.specs.declared.image.choosing.Tail.TheVariants.{Ranges as EqualRanges, Coded}
+use Rattle.lerc_encode.specs.declared.image.ranging.Ranges.{Ranges}
 
 -- the form of the definitions
 abbrev pub named : ValueForm → CodedForm

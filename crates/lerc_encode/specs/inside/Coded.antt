@@ -7,10 +7,10 @@ use Rattle.lerc_header.specs.declared.header.Version.{Version}
 use Rattle.delta_mode.specs.Deltas.{plain}
 use Rattle.lerc_encode.specs.Codings.{code_lengths, coding_bytes, have_codes}
 use Rattle.lerc_encode.specs.Images.{all_deltas, has_mode, is_v4}
-use Rattle.lerc_encode.specs.declared.codings.Coding.{Coding}
-use Rattle.lerc_encode.specs.declared.codings.Codings.{Codings}
-use Rattle.lerc_encode.specs.declared.symbols.SymbolMode.{SymbolMode}
-use Rattle.lerc_encode.specs.declared.symbols.SymbolMode.TheVariants.{Deltas, Plain}
+use Rattle.lerc_encode.specs.declared.code_words.codings.Coding.{Coding}
+use Rattle.lerc_encode.specs.declared.code_words.codings.Codings.{Codings}
+use Rattle.lerc_encode.specs.declared.code_words.symbols.SymbolMode.{SymbolMode}
+use Rattle.lerc_encode.specs.declared.code_words.symbols.SymbolMode.TheVariants.{Deltas, Plain}
 
 -- the symbols of a mode
 abbrev pub symbols_of : SymbolMode → Pixels → List ℕ

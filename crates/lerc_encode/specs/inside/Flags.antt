@@ -2,7 +2,7 @@
 -- one for so many numbers one behind the other.
 use Rattle.std.specs.Prelude.{◌≡◌, ℕ, ◌*◌, ◌/◌, ◌%◌, List, get_or, length}
 use Rattle.std.specs.Int.{bit_at}
-use Rattle.lerc_encode.specs.declared.flags.Flags.{Flags}
+use Rattle.lerc_encode.specs.declared.blocks.flags.Flags.{Flags}
 
 -- flag number k is set
 abbrev pub IsFlagged : List ℕ → ℕ → Type 0

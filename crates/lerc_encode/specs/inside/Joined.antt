@@ -5,7 +5,7 @@ use Rattle.lerc_header.specs.declared.header.Version.{Version}
 use Rattle.lerc_grammar.specs.Bands.{last_after}
 use Rattle.lerc_encode.specs.Choice.{chosen_bands}
 use Rattle.lerc_encode.specs.Masks.{runs_after}
-use Rattle.lerc_encode.specs.declared.blob.Plan.{Plan}
+use Rattle.lerc_encode.specs.declared.blobs.blob.Plan.{Plan}
 use Rattle.lerc_encode.specs.inside.Layout.{IsPlan, planned_runs}
 
 -- the plan is one of band number k, with the runs that are written behind the band before it

@@ -9,7 +9,7 @@ use Rattle.lerc_header.specs.declared.header.Version.{Version}
 use Rattle.lerc_encode.specs.Choice.{chosen_with, mask_and_image}
 use Rattle.lerc_encode.specs.Masks.{runs_unless}
 use Rattle.lerc_encode.specs.inside.Choosing.{AreRanges, IsBase, IsTail}
-use Rattle.lerc_encode.specs.declared.blob.Plan.{Plan}
+use Rattle.lerc_encode.specs.declared.blobs.blob.Plan.{Plan}
 
 -- the runs of the mask: none where it is taken from the raster before
 abbrev pub planned_runs : Plan → Pixels → List ℕ

@@ -6,9 +6,9 @@ use Rattle.raster_values.specs.Raster.{Pixels}
 use Rattle.raster_values.specs.Block.{block_values}
 use Rattle.lerc_header.specs.declared.header.Header.{Header}
 use Rattle.lerc_grammar.specs.Blocks.{blocks_across}
-use Rattle.lerc_encode.specs.declared.blocks.BlockAt.{BlockAt}
+use Rattle.lerc_encode.specs.declared.blocks.chosen_blocks.BlockAt.{BlockAt}
 use Rattle.lerc_encode.specs.inside.Blocked.{HasTable, HasTableAt, IsWithin, bytes_at}
-use Rattle.lerc_encode.specs.declared.flags.Flags.{Flags}
+use Rattle.lerc_encode.specs.declared.blocks.flags.Flags.{Flags}
 use Rattle.lerc_encode.specs.inside.Flags.{IsMarked, room_of}
 
 -- ---- one block more

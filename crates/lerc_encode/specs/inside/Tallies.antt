@@ -5,9 +5,9 @@ use Rattle.raster_cells.specs.Distance.{IsDistance, value_above}
 use Rattle.raster_values.specs.Raster.{Pixels}
 use Rattle.micro_block.specs.Named.{AreNamed}
 use Rattle.lerc_header.specs.declared.header.Header.{Header}
-use Rattle.lerc_encode.specs.declared.flags.Flags.{Flags}
-use Rattle.lerc_encode.specs.declared.sides.Gathered.{Gathered}
-use Rattle.lerc_encode.specs.declared.sides.Tally.{Tally}
+use Rattle.lerc_encode.specs.declared.blocks.flags.Flags.{Flags}
+use Rattle.lerc_encode.specs.declared.blocks.sides.Gathered.{Gathered}
+use Rattle.lerc_encode.specs.declared.blocks.sides.Tally.{Tally}
 use Rattle.lerc_encode.specs.inside.Sides.{AreMore, IsMore}
 
 -- blocks of n bytes more were looked at, and flags were set for them unless all take more than

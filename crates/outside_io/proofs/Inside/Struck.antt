@@ -3,7 +3,7 @@ use Rattle.std.proofs.Common.{◌≡◌, refl, List, ℕ, Result, Ok, Err, OnOk,
 use Rattle.outside_io.specs.declared.volume.VolFile.{VolFile}
 use Rattle.outside_io.specs.declared.volume.VolFile.TheVariants.{Bundle, Journal}
 use Rattle.outside_io.specs.volume.Disk.{Disk, File, IsImage, Struck, change, file_of, other, settled, synced}
-use Rattle.outside_io.specs.inside.Present.{IsSoundDisk, only_settled}
+use Rattle.outside_io.specs.Present.{IsSoundDisk, only_settled}
 
 synced_image : (f : File) (c : List ℕ) → IsImage f f.now → IsImage (settled f.now) c → IsImage f c
 synced_image f c here image = subst (IsImage f) (sym (only_settled f.now c image)) here

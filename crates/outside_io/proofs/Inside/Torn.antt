@@ -7,7 +7,7 @@ use Rattle.outside_io.specs.declared.volume.image.Pick.TheVariants.{Oldest, Newe
 use Rattle.outside_io.specs.volume.Disk.{AreBytes, File, HadLength, IsImage, IsUntouched}
 use Rattle.outside_io.specs.volume.Pick.{IsPicked, IsTorn, IsTouched}
 use Rattle.outside_io.specs.inside.Fills.{fills}
-use Rattle.outside_io.specs.inside.Present.{IsSound}
+use Rattle.outside_io.specs.Present.{IsSound}
 use Rattle.outside_io.specs.volume.Sparse.{SparseFile, as_byte, byte_at, byte_over, sparse_bytes}
 use Rattle.outside_io.proofs.Inside.Held.{byte_at-append, length-sparse, shows_sparse}
 use Rattle.outside_io.proofs.Inside.Pieces.{byte_at-push, over_at, over_before}

@@ -4,7 +4,7 @@ use Rattle.outside_io.specs.declared.volume.VolFile.{VolFile}
 use Rattle.outside_io.specs.declared.volume.VolFile.TheVariants.{Bundle, Journal}
 use Rattle.outside_io.specs.volume.Disk.{AreBytes, File, IsImage, IsQuiet, IsSettled, file_of, settled}
 use Rattle.outside_io.specs.volume.History.{History, IsPresent, contents, current}
-use Rattle.outside_io.specs.inside.Present.{only_settled}
+use Rattle.outside_io.specs.Present.{only_settled}
 use Rattle.outside_io.specs.volume.Recorded.{first_record, history_of}
 use Rattle.outside_io.specs.volume.Sparse.{SparseFile, sparse_bytes}
 

@@ -43,7 +43,7 @@ impl<R: Read> Source for StdSource<R> {
         if buf.is_empty() {
             return Ok(0);
         }
-        if let Some(n) = read_some(&mut self.reader, buf) {
+        if let Ok(n) = read_some(&mut self.reader, buf) {
             return Ok(n);
         }
         self.faults = self.faults.saturating_add(1);

@@ -1,6 +1,6 @@
 //! One file of the machine, opened once it is needed.
 
-ghost use Rattle.std.specs.Prelude.{◌≤◌, length, IfSome};
+ghost use Rattle.std.specs.Prelude.{◌≤◌, length, IfOk};
 
 use super::folder::{has_no_link, sync_name};
 use crate::streams::read_some;
@@ -30,67 +30,87 @@ struct OpenedFile<F: Drop> {
     file: F,
     // Where its next read or write goes, if that is known.
     place: Option<u64>,
-    leave: Leave,
-}
-
-// What a file may be opened for.
-#[derive(Clone, Copy)]
-enum Leave {
-    Write,
-    // To read alone: it may not be written.
-    Read,
-    // To read alone: its file system may not be written, so nothing of it is to be synced.
-    Fixed,
+    // What the machine said as it was to be opened for writing; it is open for reading alone then.
+    refusal: Option<io::Error>,
 }
 
 impl<F: Drop> OpenedFile<F> {
-    fn new(file: F, leave: Leave) -> OpenedFile<F> {
+    fn new(file: F, refusal: Option<io::Error>) -> OpenedFile<F> {
         OpenedFile {
             file,
             place: None,
-            leave,
+            refusal,
         }
     }
 
-    fn is_writable(&self) -> bool {
-        matches!(self.leave, Leave::Write)
+    // That it may be written.
+    fn to_write(&self) -> io::Result<()> {
+        match self.refusal {
+            None => Ok(()),
+            Some(error) => Err(error),
+        }
     }
 
-    fn file_to_write(&mut self) -> Option<&mut F> {
-        if self.is_writable() {
-            self.place = None;
-            Some(&mut self.file)
-        } else {
-            None
-        }
+    // The file, to be cut.
+    fn file_to_cut(&mut self) -> io::Result<&mut F> {
+        self.to_write()?;
+        self.place = None;
+        Ok(&mut self.file)
+    }
+
+    // Whether a sync that is answered so had nothing to do: a file system that may not be written
+    // and knows no sync, as one that is an image of files, has nothing to put on the disk.
+    fn is_no_sync(&self, kind: ErrorKind) -> bool {
+        let is_fixed = match self.refusal {
+            Some(error) => error.kind() == ErrorKind::ReadOnlyFilesystem,
+            None => false,
+        };
+        is_fixed && (kind == ErrorKind::InvalidInput || kind == ErrorKind::Unsupported)
     }
 }
 
 // The length of the file.
-fn len_of<F: Seek + Drop>(opened: &mut OpenedFile<F>) -> Option<u64> {
+fn len_of<F: Seek + Drop>(opened: &mut OpenedFile<F>) -> io::Result<u64> {
     opened.place = None;
-    opened.file.seek(SeekFrom::End(0)).ok()
+    opened.file.seek(SeekFrom::End(0))
 }
 
-// Reads from the place on, until the buffer is full or the file ends. The file is moved only where
-// it does not stand there.
+// Moves the file to the place, unless it stands there. Where it stands behind what is done next is
+// for the caller to say.
+fn move_to<F: Seek + Drop>(opened: &mut OpenedFile<F>, at: u64) -> io::Result<()> {
+    if opened.place.take() != Some(at) {
+        opened.file.seek(SeekFrom::Start(at))?;
+    }
+    Ok(())
+}
+
+// Reads from the place on, until the buffer is full or the file ends.
 fn read_at<F: Read + Seek + Drop>(
     opened: &mut OpenedFile<F>,
     at: u64,
     buf: &mut [u8],
-) -> Option<usize>
-    ensures { IfSome result (λ n. n ≤ length buf.old) }
+) -> io::Result<usize>
+    ensures { IfOk result (λ n. n ≤ length buf.old) }
 {
     if at > GREATEST_PLACE {
-        return Some(0);
+        return Ok(0);
     }
-    if opened.place != Some(at) {
-        opened.file.seek(SeekFrom::Start(at)).ok()?;
-    }
-    opened.place = None;
+    move_to(opened, at)?;
     let count = read_all(&mut opened.file, buf)?;
     opened.place = at.checked_add(count as u64);
-    Some(count)
+    Ok(count)
+}
+
+// Writes from the place on.
+fn write_at<F: Write + Seek + Drop>(
+    opened: &mut OpenedFile<F>,
+    at: u64,
+    bytes: &[u8],
+) -> io::Result<()> {
+    move_to(opened, at)?;
+    opened.file.write_all(bytes)?;
+    opened.place = at.checked_add(bytes.len() as u64);
+    Ok(())
 }
 
 impl<R: Files + Drop> Backing<R> {
@@ -110,152 +130,156 @@ impl<R: Files + Drop> Backing<R> {
         self.is_lost
     }
 
-    /// Whether it is open, and for reading alone.
-    pub(super) fn is_read_only(&self) -> bool {
+    pub(super) fn path(&self) -> &str {
+        self.path.as_str()
+    }
+
+    /// That it is not open for reading alone.
+    pub(super) fn to_change(&self) -> io::Result<()> {
         match &self.file {
-            Some(opened) => !opened.is_writable(),
-            None => false,
+            Some(opened) => opened.to_write(),
+            None => Ok(()),
         }
     }
 
-    // The file where it is there. None where the machine refuses, or where its name is a link that
-    // leads to no file, and Some(None) where there is none.
-    fn open(&mut self, files: &R) -> Option<Option<&mut OpenedFile<R::File>>> {
+    // That no sync of it has failed.
+    fn not_lost(&self) -> io::Result<()> {
+        if self.is_lost {
+            Err(io::Error::other("a sync of it has failed"))
+        } else {
+            Ok(())
+        }
+    }
+
+    // The file where it is there, and None where there is none. An error where the machine refuses,
+    // or where its name is a link that leads to no file.
+    fn open(&mut self, files: &R) -> io::Result<Option<&mut OpenedFile<R::File>>> {
         if self.file.is_none() {
             match open_file(files, self.path.as_str()) {
                 Ok(opened) => self.file = Some(opened),
                 Err(error) if error.kind() == ErrorKind::NotFound => {
                     has_no_link(files, &self.path)?;
-                    return Some(None);
+                    return Ok(None);
                 }
-                Err(_) => return None,
+                Err(error) => return Err(error),
             }
         }
-        Some(self.file.as_mut())
+        Ok(self.file.as_mut())
     }
 
-    /// Makes the file where there is none. None where the machine refuses, or where it may not be
-    /// written.
-    pub(super) fn make(&mut self, files: &R) -> Option<()> {
+    // The file, which may be written. It is made where there is none.
+    fn open_or_make(&mut self, files: &R) -> io::Result<&mut OpenedFile<R::File>> {
         if self.open(files)?.is_none() {
-            self.file = make_file(files, self.path.as_str());
+            self.file = Some(make_file(files, self.path.as_str())?);
             self.is_made = true;
         }
-        match &self.file {
-            Some(opened) if opened.is_writable() => Some(()),
-            _ => None,
+        match self.file.as_mut() {
+            Some(opened) => {
+                opened.to_write()?;
+                Ok(opened)
+            }
+            None => Err(io::Error::from(ErrorKind::NotFound)),
         }
     }
 
-    pub(super) fn len(&mut self, files: &R) -> Option<u64> {
+    /// That the file is there and may be written. It is made where there is none.
+    pub(super) fn make(&mut self, files: &R) -> io::Result<()> {
+        self.open_or_make(files)?;
+        Ok(())
+    }
+
+    pub(super) fn len(&mut self, files: &R) -> io::Result<u64> {
         match self.open(files)? {
             Some(opened) => len_of(opened),
-            None => Some(0),
+            None => Ok(0),
         }
     }
 
-    pub(super) fn read(&mut self, files: &R, at: u64, buf: &mut [u8]) -> Option<usize>
-        ensures { IfSome result (λ n. n ≤ length buf.old) }
+    pub(super) fn read(&mut self, files: &R, at: u64, buf: &mut [u8]) -> io::Result<usize>
+        ensures { IfOk result (λ n. n ≤ length buf.old) }
     {
         match self.open(files)? {
             Some(opened) => read_at(opened, at, buf),
-            None => Some(0),
+            None => Ok(0),
         }
     }
 
-    pub(super) fn write(&mut self, files: &R, at: u64, bytes: &[u8]) -> Option<()> {
-        if self.is_lost {
-            return None;
-        }
-        self.make(files)?;
-        let file = self.file.as_mut()?.file_to_write()?;
-        file.seek(SeekFrom::Start(at)).ok()?;
-        file.write_all(bytes).ok()
+    pub(super) fn write(&mut self, files: &R, at: u64, bytes: &[u8]) -> io::Result<()> {
+        self.not_lost()?;
+        write_at(self.open_or_make(files)?, at, bytes)
     }
 
-    pub(super) fn cut(&mut self, files: &R, len: u64) -> Option<()> {
-        if self.is_lost || len > self.len(files)? {
-            return None;
+    pub(super) fn cut(&mut self, files: &R, len: u64) -> io::Result<()> {
+        self.not_lost()?;
+        if len > self.len(files)? {
+            return Err(io::Error::other("it is shorter than that"));
         }
         match self.open(files)? {
-            Some(opened) => opened.file_to_write()?.set_len(len).ok(),
-            None => Some(()),
+            Some(opened) => opened.file_to_cut()?.set_len(len),
+            None => Ok(()),
         }
     }
 
-    pub(super) fn sync(&mut self, files: &R) -> Option<()> {
-        if self.is_lost {
-            return None;
-        }
+    pub(super) fn sync(&mut self, files: &R) -> io::Result<()> {
+        self.not_lost()?;
         if self.open(files)?.is_none() {
-            return Some(());
+            return Ok(());
         }
         let synced = self.sync_opened(files);
-        self.is_lost = synced.is_none();
+        self.is_lost = synced.is_err();
         synced
     }
 
-    // The open file, and its name where no call on this has synced that.
-    fn sync_opened(&mut self, files: &R) -> Option<()> {
-        sync_file(self.file.as_ref()?)?;
+    // The file that is open, and its name where no call on this has synced that.
+    fn sync_opened(&mut self, files: &R) -> io::Result<()> {
+        let Some(opened) = &self.file else {
+            return Ok(());
+        };
+        sync_file(opened)?;
         if !self.is_named {
             sync_name(files, &self.path, self.is_made)?;
             self.is_named = true;
         }
-        Some(())
+        Ok(())
     }
 }
 
 // The file of this path, which is opened for reading alone where it may not be written.
 fn open_file<R: Files>(files: &R, path: &str) -> io::Result<OpenedFile<R::File>> {
     match OpenOptions::new().read(true).write(true).open(files, path) {
-        Ok(file) => Ok(OpenedFile::new(file, Leave::Write)),
-        Err(error) => match leave_of(error.kind()) {
-            Some(leave) => Ok(OpenedFile::new(File::open(files, path)?, leave)),
-            None => Err(error),
-        },
+        Ok(file) => Ok(OpenedFile::new(file, None)),
+        Err(error) if is_no_leave(error.kind()) => {
+            Ok(OpenedFile::new(File::open(files, path)?, Some(error)))
+        }
+        Err(error) => Err(error),
     }
 }
 
-// What is left by a machine that lets a file not be written: by the file's own mode, or by the file
+// The answers of a machine that lets a file not be written: by the file's own mode, or by the file
 // system that it is on.
-fn leave_of(kind: ErrorKind) -> Option<Leave> {
-    if kind == ErrorKind::PermissionDenied {
-        Some(Leave::Read)
-    } else if kind == ErrorKind::ReadOnlyFilesystem {
-        Some(Leave::Fixed)
-    } else {
-        None
-    }
+fn is_no_leave(kind: ErrorKind) -> bool {
+    kind == ErrorKind::PermissionDenied || kind == ErrorKind::ReadOnlyFilesystem
 }
 
 // Puts the file's data and length on the disk.
-fn sync_file<F: OpenFile + Drop>(opened: &OpenedFile<F>) -> Option<()> {
+fn sync_file<F: OpenFile + Drop>(opened: &OpenedFile<F>) -> io::Result<()> {
     match opened.file.sync_data() {
-        Ok(()) => Some(()),
-        Err(error) if is_no_sync(opened.leave, error.kind()) => Some(()),
-        Err(_) => None,
+        Err(error) if opened.is_no_sync(error.kind()) => Ok(()),
+        synced => synced,
     }
 }
 
-// Whether a sync that is answered so had nothing to do: a file system that may not be written and
-// knows no sync, as one that is an image of files, has nothing to put on the disk.
-fn is_no_sync(leave: Leave, kind: ErrorKind) -> bool {
-    matches!(leave, Leave::Fixed)
-        && (kind == ErrorKind::InvalidInput || kind == ErrorKind::Unsupported)
-}
-
 // The file of this path, where there was none.
-fn make_file<R: Files>(files: &R, path: &str) -> Option<OpenedFile<R::File>> {
+fn make_file<R: Files>(files: &R, path: &str) -> io::Result<OpenedFile<R::File>> {
     let mut options = OpenOptions::new();
     options.read(true).write(true).create(true);
-    let file = options.open(files, path).ok()?;
-    Some(OpenedFile::new(file, Leave::Write))
+    let file = options.open(files, path)?;
+    Ok(OpenedFile::new(file, None))
 }
 
 // Reads until the buffer is full or the file ends.
-fn read_all<F: Read>(file: &mut F, buf: &mut [u8]) -> Option<usize>
-    ensures { IfSome result (λ n. n ≤ length buf.old) }
+fn read_all<F: Read>(file: &mut F, buf: &mut [u8]) -> io::Result<usize>
+    ensures { IfOk result (λ n. n ≤ length buf.old) }
 {
     let mut count = 0;
     while count < buf.len() {
@@ -265,5 +289,5 @@ fn read_all<F: Read>(file: &mut F, buf: &mut [u8]) -> Option<usize>
         }
         count += more;
     }
-    Some(count)
+    Ok(count)
 }

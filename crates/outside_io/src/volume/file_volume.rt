@@ -1,12 +1,14 @@
 //! Two files of the machine as a volume.
 
-ghost use Rattle.std.specs.Prelude.{◌≡◌, ◌≤◌, length, IfSome};
+ghost use Rattle.std.specs.Prelude.{◌≡◌, ◌<◌, ◌≤◌, ◌↔◌, length, IfOk, IsSome, Ok};
 ghost use Rattle.outside_io.specs.volume.Blind.{unused};
 
 use super::backing::Backing;
+use super::failures::{Failure, Failures, no_time};
 use super::tally::Tally;
 use super::{VolFile, Volume};
 use crate::Failed;
+use std::io;
 use std::marker::Model;
 use std::rt::Files;
 
@@ -37,7 +39,7 @@ use std::rt::Files;
 #[derive(Drop)]
 pub struct FileVolume<R: Files + Drop> {
     machine: Pair<R>,
-    tally: Tally,
+    failures: Failures,
 }
 
 impl<R: Files + Drop> Model for FileVolume<R> {
@@ -45,7 +47,7 @@ impl<R: Files + Drop> Model for FileVolume<R> {
 
     ghost Value = { Blind };
 
-    ghost view = { λ v. v.tally };
+    ghost view = { λ v. v.failures.tally };
 }
 
 impl<R: Files + Drop> FileVolume<R> {
@@ -60,7 +62,22 @@ impl<R: Files + Drop> FileVolume<R> {
                 bundle: Backing::new(path),
                 journal: Backing::new(journal),
             },
-            tally: Tally::new(),
+            failures: Failures::none(),
+        }
+    }
+
+    /// Why the first of its calls failed that did: there is a reason exactly where one has failed.
+    pub fn failure(&self) -> Option<Failure>
+        ensures { IsSome result ↔ 0 < self.now.faults }
+    {
+        self.failures.first()
+    }
+
+    /// The path of this file.
+    pub fn path(&self, file: VolFile) -> &str {
+        match file {
+            VolFile::Bundle => self.machine.bundle.path(),
+            VolFile::Journal => self.machine.journal.path(),
         }
     }
 
@@ -74,7 +91,17 @@ impl<R: Files + Drop> FileVolume<R> {
     pub fn faults(&self) -> u64
         ensures { result ≡ self.now.faults }
     {
-        self.tally.faults()
+        self.failures.tally.faults()
+    }
+}
+
+// What the machine answers about this file.
+fn about<T: Drop>(file: VolFile, answer: io::Result<T>) -> Result<T, Failure>
+    ensures { IfOk result (λ x. answer ≡ Ok x) }
+{
+    match answer {
+        Ok(answer) => Ok(answer),
+        Err(error) => Err(Failure { file, error }),
     }
 }
 
@@ -87,69 +114,83 @@ struct Pair<R: Files + Drop> {
 }
 
 impl<R: Files + Drop> Pair<R> {
-    // The one place that says which file of the machine stands behind a file of the volume. None
-    // at the clock's end, where both are left alone.
-    fn of(&mut self, tally: &Tally, file: VolFile) -> Option<(&mut Backing<R>, &R)> {
+    // The one place that says which file of the machine stands behind a file of the volume. At the
+    // clock's end both are left alone.
+    fn of(&mut self, tally: &Tally, file: VolFile) -> Result<(&mut Backing<R>, &R), Failure> {
         if !tally.has_time() {
-            return None;
+            return Err(no_time(file));
         }
         match file {
-            VolFile::Bundle => Some((&mut self.bundle, &self.files)),
-            VolFile::Journal => Some((&mut self.journal, &self.files)),
+            VolFile::Bundle => Ok((&mut self.bundle, &self.files)),
+            VolFile::Journal => Ok((&mut self.journal, &self.files)),
         }
     }
 
     // The same to be changed: nothing is where one of the two may only be read.
-    fn to_change(&mut self, tally: &Tally, file: VolFile) -> Option<(&mut Backing<R>, &R)> {
-        if self.bundle.is_read_only() || self.journal.is_read_only() {
-            return None;
-        }
+    fn to_change(
+        &mut self,
+        tally: &Tally,
+        file: VolFile,
+    ) -> Result<(&mut Backing<R>, &R), Failure> {
+        about(VolFile::Bundle, self.bundle.to_change())?;
+        about(VolFile::Journal, self.journal.to_change())?;
         self.of(tally, file)
     }
 
-    fn len(&mut self, tally: &Tally, file: VolFile) -> Option<u64> {
+    fn len(&mut self, tally: &Tally, file: VolFile) -> Result<u64, Failure> {
         let (backing, files) = self.of(tally, file)?;
-        backing.len(files)
+        about(file, backing.len(files))
     }
 
-    fn read(&mut self, tally: &Tally, file: VolFile, at: u64, buf: &mut [u8]) -> Option<usize>
-        ensures { IfSome result (λ n. n ≤ length buf.old) }
+    fn read(
+        &mut self,
+        tally: &Tally,
+        file: VolFile,
+        at: u64,
+        buf: &mut [u8],
+    ) -> Result<usize, Failure>
+        ensures { IfOk result (λ n. n ≤ length buf.old) }
     {
         let (backing, files) = self.of(tally, file)?;
-        backing.read(files, at, buf)
+        about(file, backing.read(files, at, buf))
     }
 
-    fn write(&mut self, tally: &Tally, file: VolFile, at: u64, bytes: &[u8]) -> Option<()> {
+    fn write(
+        &mut self,
+        tally: &Tally,
+        file: VolFile,
+        at: u64,
+        bytes: &[u8],
+    ) -> Result<(), Failure> {
         if at > 0 {
-            self.make_both(tally)?;
+            self.make(tally, VolFile::Journal)?;
+            self.make(tally, VolFile::Bundle)?;
         }
         let (backing, files) = self.to_change(tally, file)?;
-        backing.write(files, at, bytes)
+        about(file, backing.write(files, at, bytes))
     }
 
-    // Both files are there: each is made where there was none, the journal first.
-    fn make_both(&mut self, tally: &Tally) -> Option<()> {
-        let (journal, files) = self.to_change(tally, VolFile::Journal)?;
-        journal.make(files)?;
-        let (bundle, files) = self.to_change(tally, VolFile::Bundle)?;
-        bundle.make(files)
-    }
-
-    fn cut(&mut self, tally: &Tally, file: VolFile, len: u64) -> Option<()> {
+    // The file is there: it is made where there was none.
+    fn make(&mut self, tally: &Tally, file: VolFile) -> Result<(), Failure> {
         let (backing, files) = self.to_change(tally, file)?;
-        backing.cut(files, len)
+        about(file, backing.make(files))
     }
 
-    fn sync(&mut self, tally: &Tally, file: VolFile) -> Option<()> {
+    fn cut(&mut self, tally: &Tally, file: VolFile, len: u64) -> Result<(), Failure> {
+        let (backing, files) = self.to_change(tally, file)?;
+        about(file, backing.cut(files, len))
+    }
+
+    fn sync(&mut self, tally: &Tally, file: VolFile) -> Result<(), Failure> {
         let (backing, files) = self.of(tally, file)?;
-        backing.sync(files)
+        about(file, backing.sync(files))
     }
 }
 
 impl<R: Files + Drop> Volume for FileVolume<R> {
     ghost use Rattle.std.specs.Prelude.{false};
     ghost use Rattle.outside_io.specs.volume.Blind.{blind_history};
-    ghost use Rattle.outside_io.specs.inside.Present.{nothing_told};
+    ghost use Rattle.outside_io.specs.Present.{nothing_told};
 
     ghost told = { λ _. false };
 
@@ -160,31 +201,31 @@ impl<R: Files + Drop> Volume for FileVolume<R> {
     ghost present = { λ _ h. nothing_told h };
 
     fn len(&mut self, file: VolFile) -> Result<u64, Failed> {
-        let answer = self.machine.len(&self.tally, file);
-        self.tally.end(answer)
+        let answer = self.machine.len(&self.failures.tally, file);
+        self.failures.end(file, answer)
     }
 
     fn read(&mut self, file: VolFile, at: u64, buf: &mut [u8]) -> Result<usize, Failed> {
-        let answer = self.machine.read(&self.tally, file, at, buf);
-        self.tally.end(answer)
+        let answer = self.machine.read(&self.failures.tally, file, at, buf);
+        self.failures.end(file, answer)
     }
 
     fn write(&mut self, file: VolFile, at: u64, bytes: &[u8]) -> Result<(), Failed> {
-        let answer = self.machine.write(&self.tally, file, at, bytes);
-        self.tally.end(answer)
+        let answer = self.machine.write(&self.failures.tally, file, at, bytes);
+        self.failures.end(file, answer)
     }
 
     fn cut(&mut self, file: VolFile, len: u64) -> Result<(), Failed> {
-        let answer = self.machine.cut(&self.tally, file, len);
-        self.tally.end(answer)
+        let answer = self.machine.cut(&self.failures.tally, file, len);
+        self.failures.end(file, answer)
     }
 
     fn sync(&mut self, file: VolFile) -> Result<(), Failed> {
-        let answer = self.machine.sync(&self.tally, file);
-        self.tally.end(answer)
+        let answer = self.machine.sync(&self.failures.tally, file);
+        self.failures.end(file, answer)
     }
 
     fn moment(&self) -> u64 {
-        self.tally.moment()
+        self.failures.tally.moment()
     }
 }

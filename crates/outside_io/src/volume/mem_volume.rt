@@ -275,7 +275,7 @@ fn is_reached(stop: Option<u64>, number: u64) -> bool
 
 impl Volume for MemVolume {
     ghost use Rattle.std.specs.Prelude.{true};
-    ghost use Rattle.outside_io.specs.inside.Present.{present_recorded};
+    ghost use Rattle.outside_io.specs.Present.{present_recorded};
 
     ghost told = { λ _. true };
 

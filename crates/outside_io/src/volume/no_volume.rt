@@ -36,7 +36,7 @@ impl NoVolume {
 impl Volume for NoVolume {
     ghost use Rattle.std.specs.Prelude.{false};
     ghost use Rattle.outside_io.specs.volume.Blind.{blind_history};
-    ghost use Rattle.outside_io.specs.inside.Present.{nothing_told};
+    ghost use Rattle.outside_io.specs.Present.{nothing_told};
 
     ghost told = { λ _. false };
 

@@ -16,6 +16,10 @@ one_of false = pos 0
 abbrev pub marks_amount : List Bool → ℕ → ℤ
 marks_amount marks i = one_of (get_or marks i false)
 
+-- one for each
+abbrev pub ones : ℕ → ℤ
+ones i = pos 1
+
 abbrev pub values_amount : List ℤ → ℕ → ℤ
 values_amount values i = get_or values i (pos 0)
 

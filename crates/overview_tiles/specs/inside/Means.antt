@@ -1,5 +1,5 @@
 -- The means of a band's numbers, and a raster that has them.
-use Rattle.std.specs.Prelude.{◌≡◌, ◌⊎◌, ℕ, ℤ, pos, true, ◌+◌, ◌*◌, ◌<◌, ◌≤◌, ◌*ℤ◌, ◌≤ℤ◌, List, length, get_or, None, is_some, nat_lt, if◌then◌else◌}
+use Rattle.std.specs.Prelude.{◌≡◌, ◌⊎◌, ℕ, ℤ, pos, true, ◌+◌, ◌-◌, ◌*◌, ◌/◌, ◌%◌, ◌^◌, ◌<◌, ◌≤◌, ◌*ℤ◌, ◌≤ℤ◌, Bool, List, length, get_or, None, is_some, nat_eq, nat_lt, if◌then◌else◌}
 use Rattle.raster_cells.specs.declared.kind.PixelType.{PixelType}
 use Rattle.raster_cells.specs.PixelType.{type_least, type_greatest}
 use Rattle.raster_values.specs.Raster.{Pixels, IsRaster, blank}
@@ -26,15 +26,15 @@ pub record HaveMeans (kind : PixelType) (places depth : ℕ) (counts : List ℕ)
     pub greatest : (k d : ℕ) → k < places → d < depth → 0 < get_or counts k 0
         → get_or sums (k * depth + d) (pos 0) ≤ℤ (pos (get_or counts k 0) *ℤ type_greatest kind)
 
--- The n pixels from number `from` on, of which none was valid, are valid where the count of that
--- place of the list is not 0. The others are as they were.
-pub record Counted (from n : ℕ) (counts : List ℕ) (old new : Pixels) : Type 0 where
+-- bit number q of a byte, counted from the highest
+abbrev pub byte_bit : ℕ → ℕ → Bool
+byte_bit byte q = nat_eq (byte / 2 ^ (7 - q) % 2) 1
+
+-- Pixels, of which none was valid, are valid where their count is not 0.
+pub record Counted (counts : List ℕ) (old new : Pixels) : Type 0 where
   pub shape : SameShape old new
-  pub size : length new.pixels ≡ length old.pixels
-  pub marks : (i : ℕ) → i < n
-      → is_some (get_or new.pixels (from + i) None) ≡ nat_lt 0 (get_or counts i 0)
-  pub rest : (k : ℕ) → (k < from) ⊎ (from + n ≤ k)
-      → get_or new.pixels k None ≡ get_or old.pixels k None
+  pub marks : (k : ℕ) → k < length counts
+      → is_some (get_or new.pixels k None) ≡ nat_lt 0 (get_or counts k 0)
 
 -- The valid ones among the n pixels from number `from` on have the means. All else is as it was.
 pub record Fills (counts : List ℕ) (sums : List ℤ) (from n : ℕ) (old new : Pixels) : Type 0 where

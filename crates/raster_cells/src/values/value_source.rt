@@ -114,7 +114,7 @@ impl ValueSource for OneValue {
 }
 
 /// Sums of an offset and numbers of steps, none above a top.
-#[derive(Drop)]
+#[derive(Clone, Copy)]
 pub struct Sums<'a> {
     numbers: &'a [u32],
     offset: i64,
@@ -148,10 +148,47 @@ fn write_sums(kind: PixelType, numbers: &[u32], sums: &Sums, out: &mut [u8])
         (sums_within numbers.now sums.now.offset sums.now.step sums.now.gap)
         ++ drop (length numbers.now * bytes_of kind) out.old }
 {
+    // a copy, which no byte that is written can be a part of
+    let sums = *sums;
     let size = kind.bytes();
     for (i, q) in numbers.iter().enumerate() {
-        kind.write_value(sum_of(*q, sums), &mut out[i * size..]);
+        kind.write_value(sum_of(*q, &sums), &mut out[i * size..]);
     }
+}
+
+/// The sums of eight numbers. Nothing is multiplied where a step is 1, which the compiler is to
+/// know.
+#[inline(always)]
+fn eight_sums(numbers: &[u32], sums: &Sums) -> [i64; 8]
+    requires { length numbers.now ≡ 8 }
+    ensures { result ≡ sums_within numbers.now sums.now.offset sums.now.step sums.now.gap }
+{
+    if sums.step == 1 {
+        let by_one = Sums {
+            numbers: sums.numbers,
+            offset: sums.offset,
+            step: 1,
+            most: sums.gap,
+            gap: sums.gap,
+        };
+        sums_together(numbers, &by_one)
+    } else {
+        sums_together(numbers, sums)
+    }
+}
+
+/// Does what `eight_sums` does. All are read before any is written, so that the compiler may take
+/// them together.
+#[inline(always)]
+fn sums_together(numbers: &[u32], sums: &Sums) -> [i64; 8]
+    requires { length numbers.now ≡ 8 }
+    ensures { result ≡ sums_within numbers.now sums.now.offset sums.now.step sums.now.gap }
+{
+    let mut values = [0; 8];
+    for i in 0..8 {
+        values[i] = sum_of(numbers[i], sums);
+    }
+    values
 }
 
 impl<'a> Sums<'a> {
@@ -207,6 +244,11 @@ impl<'a> ValueSource for Sums<'a> {
 
     #[inline(always)]
     fn write_as(&self, kind: PixelType, n: usize, count: usize, out: &mut [u8]) {
-        write_sums(kind, &self.numbers[n..n + count], self, out);
+        let numbers = &self.numbers[n..n + count];
+        if count == 8 {
+            write_values(kind, &eight_sums(numbers, self), out);
+        } else {
+            write_sums(kind, numbers, self, out);
+        }
     }
 }

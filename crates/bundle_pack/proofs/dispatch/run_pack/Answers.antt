@@ -1,7 +1,7 @@
 use Rattle.std.proofs.Common.{sym, ◌∙◌, rules, arith}
 use Rattle.bundle_pack.proofs.Ended.{ends_as, ends_with, never_usage, not_free, output_status, volume_status}
 use Rattle.bundle_pack.proofs.OneAnswer.{one_answer}
-use Rattle.bundle_pack.proofs.Promised.{complete, packed_all, source_keeps, source_stays, target_keeps, target_unpacked, unpacked_keeps, unpacked_stays}
+use Rattle.bundle_pack.proofs.Promised.{complete, packed_all, packed_shut, source_keeps, source_stays, target_keeps, target_unpacked, unpacked_keeps, unpacked_stays}
 use Rattle.bundle_pack.proofs.Volumes.{each_map}
 use Rattle.bundle_pack.proofs.dispatch.run_pack.Goals as goal
 
@@ -34,6 +34,7 @@ returns-clause-ran g c = λ asked. record {
   says = c.pack-answer.ensures.says;
   fails = c.pack-answer.ensures.answers;
   sources = c.pack-answer.ensures.sources;
+  shut = c.pack-answer.ensures.shut;
   target = record {
     cause = c.pack-answer.ensures.target;
     told = c.pack-answer.ensures.told;
@@ -67,7 +68,7 @@ returns-clause-complete g c = λ asked from_told to_told maps start stand stands
 
 pub returns-clause-sources_keep : goal.returns-clause-sources_keep
 returns-clause-sources_keep g c = λ asked.
-    each_map _ _ _ _ (λ i v w less moves start ready. source_keeps g.V.Volume.told g.V.Volume.history v w start moves.kept ready) c.pack-answer.ensures.sources
+    each_map _ _ _ _ (λ i v w less moves tells sound. source_keeps g.V.Volume.told g.V.Volume.history v w moves.kept tells sound) c.pack-answer.ensures.sources
 
 pub returns-clause-sources_stay : goal.returns-clause-sources_stay
 returns-clause-sources_stay g c = λ asked.
@@ -84,3 +85,6 @@ returns-clause-target_unpacked g c = λ asked start ready late.
 pub returns-clause-target_stays : goal.returns-clause-target_stays
 returns-clause-target_stays g c = λ asked tells shut late.
     unpacked_stays _ _ shut (target_unpacked _ _ _ _ c.end_of-ended.ensures.ends c.ended_status.ensures.status late (c.pack-answer.ensures.unpacked tells))
+
+pub returns-clause-shut : goal.returns-clause-shut
+returns-clause-shut g c = λ asked zero. packed_shut g.V.Volume.told g.V.Volume.history _ _ _ _ _ c.end_of-ended.ensures.ends c.ended_status.ensures.status zero c.pack-answer.ensures.shut

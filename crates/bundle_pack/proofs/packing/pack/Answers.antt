@@ -20,6 +20,7 @@ use Rattle.bundle_pack.proofs.Sound.{sound_answers, sound_packed}
 use Rattle.bundle_pack.proofs.Steps.{all_moved, err_as, not_source, not_target, read_fails, target_cause, target_fails}
 use Rattle.bundle_pack.proofs.Telling.{cause_map}
 use Rattle.opened_bundle.proofs.BundleOpening.{still}
+use Rattle.bundle_pack.proofs.Volumes.{each_map}
 use Rattle.bundle_pack.proofs.packing.pack.Goals as goal
 
 -- the sources refuse
@@ -150,3 +151,17 @@ returns-clause-unpacked g c = λ tells. rw c.target_fault.ensures (stays_unpacke
 
 pub returns-clause-left : goal.returns-clause-left
 returns-clause-left g c = λ tells. rw c.target_fault.ensures (is_left c.in-Err-write_target.fault _ (c.in-Err-write_target.ensures.left tells))
+
+-- ---- the sources that were opened
+
+pub returns-in-Err-clause-shut : goal.returns-in-Err-clause-shut
+returns-in-Err-clause-shut g c = c.in-Err.ensures.shut
+
+pub returns-in-Err-built_size-clause-shut : goal.returns-in-Err-built_size-clause-shut
+returns-in-Err-built_size-clause-shut g c = each_map _ _ _ _ (λ i v w less shut was tells. shut tt tells) c.in-Ok.ensures.shut
+
+pub returns-in-Ok-write_target-clause-shut : goal.returns-in-Ok-write_target-clause-shut
+returns-in-Ok-write_target-clause-shut g c = c.in-Ok.ensures.shut
+
+pub returns-clause-shut : goal.returns-clause-shut
+returns-clause-shut g c = each_map _ _ _ _ (λ i v w less shut was tells. shut tt tells) c.in-Ok.ensures.shut

@@ -6,7 +6,7 @@ use Rattle.bundle_pack.specs.Chosen.{chosen_bytes, most_bytes}
 use Rattle.bundle_pack.specs.Files.{all_bundles, all_files}
 use Rattle.bundle_pack.specs.Sources.{DeviceAt}
 use Rattle.bundle_pack.specs.inside.Collecting.{AreServed, ReadFails}
-use Rattle.bundle_pack.proofs.Reading.{served}
+use Rattle.bundle_pack.proofs.Reading.{served, still_shut}
 use Rattle.bundle_pack.proofs.Steps.{all_moved, err_as, opening_fails, moved_told, opened_still, read_tiles}
 use Rattle.bundle_pack.proofs.packing.read_sources.Goals as goal
 
@@ -51,3 +51,15 @@ returns-in-Err-clause-answers g c = opening_fails (length c.args.from.now) c.in-
 
 pub returns-clause-answers : goal.returns-clause-answers
 returns-clause-answers g c = subst (λ (n : ℕ). IfErr c.collect_tiles.result (λ f. ReadFails n f)) c.in-Ok.ensures.sources.many c.collect_tiles.ensures.answers
+
+pub returns-in-Err-clause-shut : goal.returns-in-Err-clause-shut
+returns-in-Err-clause-shut g c = c.in-Err.ensures.shut
+
+pub returns-then-len-gt-MOST_BYTES-clause-shut : goal.returns-then-len-gt-MOST_BYTES-clause-shut
+returns-then-len-gt-MOST_BYTES-clause-shut g c = c.in-Ok.ensures.shut
+
+pub returns-clause-shut : goal.returns-clause-shut
+returns-clause-shut g c =
+    let vol = g.V.Volume in
+    still_shut {X = Vec SessionState Global} vol.told vol.history vol.faults (λ i. DeviceAt {X = Vec SessionState Global} (Ok c.in-Ok.sessions) i) (λ i. DeviceAt c.collect_tiles.result i) c.args.from.now c.open_sources.new.from c.collect_tiles.new.from
+    (Ok c.in-Ok.sessions) c.collect_tiles.result (λ i. tt) c.in-Ok.ensures.sources c.in-Ok.ensures.shut c.collect_tiles.ensures.still

@@ -1,4 +1,5 @@
 use Rattle.std.proofs.Common.{inl, inr, refl, subst, sym, ◌∙◌}
+use Rattle.std.proofs.lemmas.Bool.{cases_eq}
 use Rattle.std.specs.Prelude.{length}
 use Rattle.program_ends.specs.Stop.{line_by}
 use Rattle.bundle_pack.specs.Words.{IsAsked}
@@ -39,3 +40,25 @@ returns-in-Err-clause-usage g c = λ texts told none. inr (record {
   output = refl;
   line = c.end_without_memory.ensures.line;
 })
+
+pub returns-in-Ok-clause-output_failed : goal.returns-in-Ok-clause-output_failed
+returns-in-Ok-clause-output_failed g c = rw c.exit_code.ensures c.run_pack.ensures.output_failed
+
+pub returns-in-Ok-clause-volume_failed : goal.returns-in-Ok-clause-volume_failed
+returns-in-Ok-clause-volume_failed g c = rw c.exit_code.ensures c.run_pack.ensures.volume_failed
+
+pub returns-in-Ok-clause-some_run : goal.returns-in-Ok-clause-some_run
+returns-in-Ok-clause-some_run g c = elim (cases_eq c.run_pack.result 1) [
+  | inl one ↦ inl (c.exit_code.ensures ∙ one)
+  | inr other ↦ let s = c.run_pack.ensures.asked other in inr (inr (_, (s, rw c.exit_code.ensures (c.run_pack.ensures.ran s))))
+]
+
+pub returns-in-Err-clause-some_run : goal.returns-in-Err-clause-some_run
+unfolding line_by
+returns-in-Err-clause-some_run g c = inr (inl (record {
+  status_is = c.end_without_memory.ensures.status;
+  sources = refl;
+  target = refl;
+  output = refl;
+  line = c.end_without_memory.ensures.line;
+}))

@@ -8,7 +8,7 @@ use Rattle.bundle_pack.specs.Sources.{Each}
 use Rattle.bundle_pack.specs.inside.Turns.{IsTurn}
 use Rattle.bundle_pack.proofs.Reading.{images_same}
 use Rattle.bundle_pack.proofs.Steps.{opening_answers}
-use Rattle.bundle_pack.proofs.Turning.{first_unopened, turn_fails, turn_more, turn_none, turn_stops, turns_moved, turns_open, turns_serve}
+use Rattle.bundle_pack.proofs.Turning.{failed_shut, first_unopened, stopped_shut, turn_fails, turn_more, turn_none, turn_stops, turns_moved, turns_open, turns_serve, turns_shut}
 use Rattle.bundle_pack.proofs.sources.open_sources.Goals as goal
 
 pub loop-at-init : goal.loop-at-init
@@ -32,7 +32,7 @@ loop-at-preserved g c =
       pushed = ap length items ∙ length-append c.loop-at.sessions.items (c.in-Ok.session ∷ []) ∙ omega (arith, inv.pushed);
       turns = subst (λ (ss : List SessionState). Each (IsTurn vol.told vol.history vol.faults ss (c.loop-at.at + 1)) c.args.from.now (slice_set c.loop-at.from c.loop-at.at c.open_one.new.vol)) (sym items)
           (turn_more vol.told vol.history vol.faults c.loop-at.sessions.items c.loop-at.at c.args.from.now c.loop-at.from _ c.open_one.new.vol c.in-Ok.session inv.pushed there c.open_one.ensures.kept c.in-Ok.ensures.counted
-          (record { running = c.in-Ok.ensures.running; opens = c.in-Ok.ensures.says; left = c.in-Ok.ensures.left }) inv.turns);
+          (record { running = c.in-Ok.ensures.running; opens = c.in-Ok.ensures.says; left = c.in-Ok.ensures.left; shut = c.in-Ok.ensures.shut }) inv.turns);
     }
 
 pub returns-in-Err-push-clause-sources : goal.returns-in-Err-push-clause-sources
@@ -78,3 +78,23 @@ returns-clause-says g c = λ all.
     let vol = g.V.Volume in
     let inv = c.loop-at.invariant in
     turns_open vol.told vol.history vol.faults c.loop-at.sessions.items c.loop-at.at c.args.from.now c.loop-at.from (omega (arith, inv.end)) all inv.turns
+
+pub returns-in-Err-push-clause-shut : goal.returns-in-Err-push-clause-shut
+returns-in-Err-push-clause-shut g c =
+    let vol = g.V.Volume in
+    let inv = c.loop-at.invariant in
+    let there = slice_get-get_or c.loop-at.from c.loop-at.at c.index-from-at.result (omega (arith, inv.end, inv.turns.many)) in
+    stopped_shut (Vec SessionState Global) vol.told vol.history vol.faults c.loop-at.sessions.items c.loop-at.at c.args.from.now c.loop-at.from _ c.open_one.new.vol there inv.turns
+
+pub returns-in-Err-clause-shut : goal.returns-in-Err-clause-shut
+returns-in-Err-clause-shut g c =
+    let vol = g.V.Volume in
+    let inv = c.loop-at.invariant in
+    let there = slice_get-get_or c.loop-at.from c.loop-at.at c.index-from-at.result (omega (arith, inv.end, inv.turns.many)) in
+    rw c.source_fault.ensures (failed_shut (Vec SessionState Global) vol.told vol.history vol.faults c.loop-at.sessions.items c.loop-at.at c.args.from.now c.loop-at.from _ c.open_one.new.vol c.in-Err.fault there inv.turns)
+
+pub returns-clause-shut : goal.returns-clause-shut
+returns-clause-shut g c =
+    let vol = g.V.Volume in
+    let inv = c.loop-at.invariant in
+    turns_shut vol.told vol.history vol.faults c.loop-at.sessions.items c.loop-at.at c.args.from.now c.loop-at.from (omega (arith, inv.end)) inv.turns

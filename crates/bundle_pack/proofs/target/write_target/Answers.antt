@@ -1,8 +1,11 @@
 use Rattle.std.proofs.Common.{Bool, IsTrue, subst, sym}
+use Rattle.outside_io.specs.declared.volume.VolFile.TheVariants.{Bundle}
+use Rattle.outside_io.specs.volume.History.{contents}
 use Rattle.outside_io.proofs.VolumeLemmas.Moments.{during_map}
 use Rattle.bundle_store.specs.Build.{last_tiles}
 use Rattle.bundle_pack.specs.Files.{files_in}
 use Rattle.bundle_store.proofs.Refusals.{cause_weaker, refusal_weaker}
+use Rattle.bundle_pack.proofs.Opening.{build_says, was_running}
 use Rattle.bundle_pack.proofs.Recovered.{left_on, opened, recovers_on}
 use Rattle.bundle_pack.proofs.Targets.{target_images}
 use Rattle.bundle_pack.proofs.target.write_target.Goals as goal
@@ -50,3 +53,10 @@ returns-in-Ok-clause-left g c told =
     let new = vol.history c.build.new.vol in
     let tells : IsTrue (vol.told c.open_one.new.vol) = subst (λ (b : Bool). IsTrue b) (sym c.open_one.ensures.kept.told_same) told in
     refusal_weaker c.build.result _ _ (left_on old mid new (c.in-Ok.ensures.left told)) (c.build.ensures.kept tells)
+
+pub returns-in-Ok-clause-says : goal.returns-in-Ok-clause-says
+returns-in-Ok-clause-says g c told =
+    let vol = g.W.Volume in
+    let tells : IsTrue (vol.told c.open_one.new.vol) = subst (λ (b : Bool). IsTrue b) (sym c.open_one.ensures.kept.told_same) told in
+    build_says (files_in (vol.history c.args.to.now)) (contents Bundle (vol.history c.open_one.new.vol)) c.args.tiles.now c.build.result (c.in-Ok.ensures.says told).0 c.requires.fits
+    (λ is. was_running c.in-Ok.session.stopped (c.build.ensures.stopped.0 is) c.in-Ok.ensures.running) (c.build.ensures.empty tells) c.build.ensures.answers (c.build.ensures.not_empty tells)

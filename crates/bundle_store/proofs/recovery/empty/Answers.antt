@@ -6,6 +6,7 @@ use Rattle.bundle_store.specs.Images.{EachImage}
 use Rattle.bundle_store.specs.Tiles.{no_tiles}
 use Rattle.bundle_store.proofs.Midway.{empty_midway}
 use Rattle.bundle_store.proofs.Recovering.{in_emptied, in_wiping}
+use Rattle.bundle_store.proofs.Ways.{emptied_way, wiping_way}
 use Rattle.bundle_store.proofs.recovery.empty.Goals as goal
 
 pub returns-in_err-wipe-clause-changes : goal.returns-in_err-wipe-clause-changes
@@ -38,3 +39,12 @@ returns-clause-changes g c = record {
 pub returns-clause-bytes : goal.returns-clause-bytes
 returns-clause-bytes g c = λ told.
     empty_midway (current (g.V.Volume.history c.args.vol.now)).bundle.now _ _ _ (c.wipe.ensures.bytes told) (ap (λ (d : Disk). d.bundle) (c.in_ok-wipe.ensures.done told)) (c.close_gate.ensures.during (c.wipe.ensures.changes.same ∙ told))
+
+pub returns-in_err-wipe-clause-files : goal.returns-in_err-wipe-clause-files
+returns-in_err-wipe-clause-files g c = λ told.
+    wiping_way (g.V.Volume.history c.args.vol.now) _ (c.requires.quiet told) (c.requires.opened told) (c.requires.says told) (c.wipe.ensures.changes.during told) (c.wipe.ensures.bytes told)
+
+pub returns-clause-files : goal.returns-clause-files
+returns-clause-files g c = λ told.
+    emptied_way (g.V.Volume.history c.args.vol.now) _ (c.requires.quiet told) (c.requires.opened told) (c.requires.says told) (c.wipe.ensures.changes.during told) (c.wipe.ensures.bytes told)
+    _ (c.in_ok-wipe.ensures.done told) (c.close_gate.ensures.during (c.wipe.ensures.changes.same ∙ told))

@@ -1,7 +1,11 @@
-use Rattle.std.proofs.Common.{ap, ◌∙◌, rules}
+use Rattle.std.proofs.Common.{◌≡◌, ◌∷◌, drop, ap, ◌∙◌, rules}
+use Rattle.outside_io.specs.volume.Disk.{Disk}
+use Rattle.outside_io.specs.volume.History.{current}
+use Rattle.outside_io.proofs.VolumeLemmas.Moments.{during_end}
 use Rattle.side_journal.specs.declared.body.JournalState.TheVariants.{Open}
 use Rattle.bundle_store.proofs.Midway.{midway_emptying, midway_finishing, midway_reading}
 use Rattle.bundle_store.proofs.Recovering.{emptied, keeps_emptying, keeps_finishing, keeps_reading}
+use Rattle.bundle_store.proofs.Ways.{finishing_way, reading_way}
 use Rattle.bundle_store.proofs.recovery.finish.Goals as goal
 
 pub returns-in_err-state-clause-changes : goal.returns-in_err-state-clause-changes
@@ -54,6 +58,11 @@ returns-in_ok-empty-in-Build-clause-finishes g c = record {
       emptied c.in_ok-state.state _ _ (g.V.Volume.history c.empty.new.vol) (c.in-Open.is ∙ ap Open c.in-Build.is) (c.in_ok-state.ensures.says told) (c.read_journal.ensures.during told)
       (c.in_ok-empty-in-Build.ensures.done (c.read_journal.ensures.told ∙ told));
   leaves = search rules;
+  journal = λ told.
+      let old = g.V.Volume.history c.args.vol.now in
+      let still = during_end (λ d. d ≡ current old) old _ (c.read_journal.ensures.during told) in
+      ap (λ (d : Disk). d.journal.now) (c.in_ok-empty-in-Build.ensures.done (c.read_journal.ensures.told ∙ told)) ∙ ap (λ (d : Disk). 0 ∷ drop 1 d.journal.now) still;
+  closed = λ told. tt;
   refused = λ told. tt;
   answers = tt;
 }
@@ -101,3 +110,28 @@ returns-in-Group-clause-changes g c = record {
 pub returns-in-Group-clause-bytes : goal.returns-in-Group-clause-bytes
 returns-in-Group-clause-bytes g c = λ told.
     midway_finishing _ _ _ (c.requires.quiet told) (c.read_journal.ensures.during told) (c.finish_group-in-Group.ensures.bytes (c.read_journal.ensures.told ∙ told))
+
+pub returns-in_err-state-clause-files : goal.returns-in_err-state-clause-files
+returns-in_err-state-clause-files g c = λ told. reading_way _ _ (c.requires.quiet told) (c.read_journal.ensures.during told)
+
+pub returns-in-Closed-clause-files : goal.returns-in-Closed-clause-files
+returns-in-Closed-clause-files g c = λ told. reading_way _ _ (c.requires.quiet told) (c.read_journal.ensures.during told)
+
+pub returns-in-Bad-clause-files : goal.returns-in-Bad-clause-files
+returns-in-Bad-clause-files g c = λ told. reading_way _ _ (c.requires.quiet told) (c.read_journal.ensures.during told)
+
+pub returns-in-Tile-clause-files : goal.returns-in-Tile-clause-files
+returns-in-Tile-clause-files g c = λ told.
+    finishing_way _ _ _ (c.requires.quiet told) (c.read_journal.ensures.during told) (c.finish_group.ensures.files (c.read_journal.ensures.told ∙ told))
+
+pub returns-in-Group-clause-files : goal.returns-in-Group-clause-files
+returns-in-Group-clause-files g c = λ told.
+    finishing_way _ _ _ (c.requires.quiet told) (c.read_journal.ensures.during told) (c.finish_group-in-Group.ensures.files (c.read_journal.ensures.told ∙ told))
+
+pub returns-in_err-empty-in-Build-clause-files : goal.returns-in_err-empty-in-Build-clause-files
+returns-in_err-empty-in-Build-clause-files g c = λ told.
+    finishing_way _ _ _ (c.requires.quiet told) (c.read_journal.ensures.during told) (c.empty.ensures.files (c.read_journal.ensures.told ∙ told))
+
+pub returns-in_ok-empty-in-Build-clause-files : goal.returns-in_ok-empty-in-Build-clause-files
+returns-in_ok-empty-in-Build-clause-files g c = λ told.
+    finishing_way _ _ _ (c.requires.quiet told) (c.read_journal.ensures.during told) (c.empty.ensures.files (c.read_journal.ensures.told ∙ told))

@@ -1,4 +1,4 @@
-use Rattle.std.proofs.Common.{◌≡◌, ◌∷◌, ◌≤◌, drop, length, ap, ◌∙◌, arith, rules}
+use Rattle.std.proofs.Common.{◌≡◌, ℕ, List, ◌∷◌, ◌≤◌, drop, length, sym, subst, ap, ◌∙◌, arith, rules}
 use Rattle.std.specs.Prelude.{IsTrue}
 use Rattle.outside_io.specs.volume.Disk.{Disk, settled}
 use Rattle.outside_io.specs.volume.History.{current}
@@ -8,6 +8,8 @@ use Rattle.bundle_store.specs.Recover.{AppliesTo}
 use Rattle.bundle_store.proofs.GroupStanding.{lays_body, lays_tiles}
 use Rattle.bundle_store.proofs.Midway.{midway_measuring, midway_putting}
 use Rattle.bundle_store.proofs.Recovering.{keeps_measuring, keeps_putting, recovered_group}
+use Rattle.bundle_store.proofs.Ways.{measured_way, measuring_way}
+use Rattle.bundle_store.specs.inside.Grouped.{SaysThese}
 use Rattle.bundle_store.proofs.recovery.finish_group.Goals as goal
 
 pub returns-in_err-len-clause-changes : goal.returns-in_err-len-clause-changes
@@ -63,6 +65,10 @@ returns-clause-finishes g c =
           let bundle : (current next).bundle.now ≡ b = ap (λ (d : Disk). d.bundle.now) (c.len.ensures.disk told) in
           let done = c.in_ok-redo.ensures.done (c.len.ensures.told ∙ told) in
           (applies told, ap (λ (d : Disk). d.bundle.now) done ∙ ap over bundle ∙ lays_body b these.body c.args.group.now c.args.header.now these.lays);
+      journal = λ told.
+          let journal : (current next).journal.now ≡ j = ap (λ (d : Disk). d.journal.now) (c.len.ensures.disk told) in
+          ap (λ (d : Disk). d.journal.now) (c.in_ok-redo.ensures.done (c.len.ensures.told ∙ told)) ∙ ap (λ (l : List ℕ). 0 ∷ drop 1 l) journal;
+      closed = λ told. tt;
       refused = λ told. tt;
       answers = tt;
     }
@@ -84,3 +90,27 @@ returns-clause-bytes g c = λ told.
 pub returns-then-branch-size-clause-bytes : goal.returns-then-branch-size-clause-bytes
 returns-then-branch-size-clause-bytes g c = λ told.
     midway_measuring _ _ _ (c.requires.quiet told) c.len.ensures.time (c.len.ensures.disk told)
+
+pub returns-in_err-len-clause-files : goal.returns-in_err-len-clause-files
+returns-in_err-len-clause-files g c = λ told.
+    measuring_way _ _ _ (c.requires.quiet told) c.len.ensures.time (c.len.ensures.disk told)
+
+pub returns-then-branch-size-clause-files : goal.returns-then-branch-size-clause-files
+returns-then-branch-size-clause-files g c = λ told.
+    measuring_way _ _ _ (c.requires.quiet told) c.len.ensures.time (c.len.ensures.disk told)
+
+pub returns-in_err-redo-clause-files : goal.returns-in_err-redo-clause-files
+returns-in_err-redo-clause-files g c = λ told.
+    let old = g.V.Volume.history c.args.vol.now in
+    let same = c.len.ensures.disk told in
+    let these = subst (λ (d : Disk). SaysThese d.journal.now c.args.group.now c.args.header.now c.args.size c.args.place) (sym same) (c.requires.says told) in
+    let fits = subst (λ (d : Disk). c.args.size ≤ length d.bundle.now) (sym same) (let fits : c.args.size ≤ length (current old).bundle.now = omega (arith, c.if-branch-size.false, c.in_ok-len.ensures.answer told) in fits) in
+    measured_way old _ _ _ (c.requires.quiet told) c.len.ensures.time same (c.redo.ensures.files (c.len.ensures.told ∙ told) c.args.size c.args.place these fits)
+
+pub returns-clause-files : goal.returns-clause-files
+returns-clause-files g c = λ told.
+    let old = g.V.Volume.history c.args.vol.now in
+    let same = c.len.ensures.disk told in
+    let these = subst (λ (d : Disk). SaysThese d.journal.now c.args.group.now c.args.header.now c.args.size c.args.place) (sym same) (c.requires.says told) in
+    let fits = subst (λ (d : Disk). c.args.size ≤ length d.bundle.now) (sym same) (let fits : c.args.size ≤ length (current old).bundle.now = omega (arith, c.if-branch-size.false, c.in_ok-len.ensures.answer told) in fits) in
+    measured_way old _ _ _ (c.requires.quiet told) c.len.ensures.time same (c.redo.ensures.files (c.len.ensures.told ∙ told) c.args.size c.args.place these fits)

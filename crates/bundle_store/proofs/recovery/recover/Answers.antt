@@ -5,9 +5,10 @@ use Rattle.outside_io.proofs.VolumeLemmas.Images.{present_of}
 use Rattle.outside_io.specs.declared.volume.VolFile.TheVariants.{Bundle, Journal}
 use Rattle.outside_io.proofs.VolumeLemmas.Moments.{during_join, during_map}
 use Rattle.bundle_store.specs.inside.Parts.{EachKeeps}
-use Rattle.bundle_store.specs.Recover.{EachStandsForOneOf, IsRecovered, Leaves, OnBadJournal, RecoverySays}
+use Rattle.bundle_store.specs.Recover.{EachStandsForOneOf, IsRecovered, Leaves, LeavesJournal, OnBadJournal, OnClosed, RecoverySays}
 use Rattle.bundle_store.proofs.Midway.{narrows_midway, recover_midway}
 use Rattle.bundle_store.proofs.Recovering.{both_settled, one_of}
+use Rattle.bundle_store.proofs.Ways.{narrowing_way, synced_way}
 use Rattle.bundle_store.proofs.recovery.recover.Goals as goal
 
 pub returns-clause-images : goal.returns-clause-images
@@ -70,3 +71,26 @@ pub returns-clause-bytes : goal.returns-clause-bytes
 returns-clause-bytes g c = λ told.
     let done = c.in_ok-sync_both.ensures.done told in
     recover_midway _ _ _ (c.sync_both.ensures.changes.during told) (ap (λ (d : Disk). d.bundle.now) done) (ap (λ (d : Disk). d.journal.now) done) (c.finish.ensures.bytes (c.sync_both.ensures.changes.same ∙ told))
+
+pub returns-in_err-sync_both-clause-files : goal.returns-in_err-sync_both-clause-files
+returns-in_err-sync_both-clause-files g c = λ told. narrowing_way (g.V.Volume.history c.args.vol.now) _ (c.sync_both.ensures.changes.during told)
+
+pub returns-clause-files : goal.returns-clause-files
+returns-clause-files g c = λ told.
+    synced_way _ _ _ (c.sync_both.ensures.changes.during told) (c.in_ok-sync_both.ensures.done told) (c.finish.ensures.files (c.sync_both.ensures.changes.same ∙ told))
+
+pub returns-clause-journal : goal.returns-clause-journal
+returns-clause-journal g c = λ told.
+    let done = c.in_ok-sync_both.ensures.done told in
+    let last = current (g.V.Volume.history c.finish.new.vol) in
+    let Left : Disk → Type 0 = λ d.
+    IfOk c.finish.result (λ r. LeavesJournal d.journal.now r last.journal.now) in
+    subst Left done
+    (c.finish.ensures.finishes.journal (c.sync_both.ensures.changes.same ∙ told))
+
+pub returns-clause-closed : goal.returns-clause-closed
+returns-clause-closed g c = λ told.
+    let done = c.in_ok-sync_both.ensures.done told in
+    let last = current (g.V.Volume.history c.finish.new.vol) in
+    subst (λ (d : Disk). OnClosed c.finish.result (last ≡ d)) done
+    (c.finish.ensures.finishes.closed (c.sync_both.ensures.changes.same ∙ told))

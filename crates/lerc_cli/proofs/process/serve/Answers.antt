@@ -1,4 +1,5 @@
 use Rattle.std.proofs.Common.{inl, inr, refl, subst, sym, ◌∙◌}
+use Rattle.std.proofs.lemmas.Bool.{cases_eq}
 use Rattle.program_ends.specs.Stop.{line_by}
 use Rattle.lerc_cli.specs.words.Commands.{IsNoCommand, IsSpelled}
 use Rattle.program_ends.proofs.Words.{told_words}
@@ -33,3 +34,28 @@ returns-in-Err-clause-usage g c = λ texts told none. inr (record {
   volume = refl;
   line = c.end_without_memory.ensures.line;
 })
+
+pub returns-in-Ok-clause-source_failed : goal.returns-in-Ok-clause-source_failed
+returns-in-Ok-clause-source_failed g c = rw c.exit_code.ensures c.run.ensures.source_failed
+
+pub returns-in-Ok-clause-output_failed : goal.returns-in-Ok-clause-output_failed
+returns-in-Ok-clause-output_failed g c = rw c.exit_code.ensures c.run.ensures.output_failed
+
+pub returns-in-Ok-clause-volume_failed : goal.returns-in-Ok-clause-volume_failed
+returns-in-Ok-clause-volume_failed g c = rw c.exit_code.ensures c.run.ensures.volume_failed
+
+pub returns-in-Ok-clause-some_run : goal.returns-in-Ok-clause-some_run
+returns-in-Ok-clause-some_run g c = elim (cases_eq c.run.result.status 1) [
+  | inl one ↦ inl (c.exit_code.ensures ∙ one)
+  | inr other ↦ let s = c.run.ensures.spelled other in inr (inr (_, (s.0, (s.1, (c.run.result.marks.marks, rw c.exit_code.ensures (c.run.ensures.ran s.0 s.1))))))
+]
+
+pub returns-in-Err-clause-some_run : goal.returns-in-Err-clause-some_run
+unfolding line_by
+returns-in-Err-clause-some_run g c = inr (inl (record {
+  status_is = c.end_without_memory.ensures.status;
+  source = refl;
+  output = refl;
+  volume = refl;
+  line = c.end_without_memory.ensures.line;
+}))

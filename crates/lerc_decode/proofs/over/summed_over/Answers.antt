@@ -11,7 +11,7 @@ returns-clause-ok c =
         p.blob_of,
         record {
           values_are = p.values_are;
-          mask_is = mask_held c.args.blob.now.header p.raster c.mask_bits.new.bits p.blob_of.0 p.shape (λ i. c.scatter_over.ensures.bytes i) (c.mask_bits.ensures.room ∙ c.requires.room.masks_size) p.marks c.in_ok-mask_bits.ensures.spare;
+          mask_is = mask_held c.args.blob.now.header p.raster c.mask_bits.new.bits p.blob_of.0 p.shape (λ i. c.scatter_over.ensures.bytes i) (c.mask_bits.auto.bits ∙ c.requires.room.masks_size) p.marks c.in_ok-mask_bits.ensures.spare;
         },
       ),
     )) c.scatter_over.result c.scatter_over.ensures.ok

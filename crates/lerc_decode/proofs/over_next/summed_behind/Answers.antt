@@ -21,7 +21,7 @@ returns-clause-ok c =
         s.blob_of,
         record {
           values_are = s.values_are;
-          mask_is = mask_held c.args.blob.now.header s.raster c.bits_behind.new.bits s.blob_of.0 s.shape (λ i. c.scatter_behind.ensures.bytes i) (c.bits_behind.ensures.room ∙ c.requires.room.masks_size) s.marks c.in_ok-bits_behind.ensures.spare;
+          mask_is = mask_held c.args.blob.now.header s.raster c.bits_behind.new.bits s.blob_of.0 s.shape (λ i. c.scatter_behind.ensures.bytes i) (c.bits_behind.auto.bits ∙ c.requires.room.masks_size) s.marks c.in_ok-bits_behind.ensures.spare;
         },
       ),
     )) c.scatter_behind.result c.scatter_behind.ensures.ok

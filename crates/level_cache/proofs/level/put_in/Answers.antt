@@ -14,7 +14,7 @@ pub returns-in-Err-open-clause-puts : goal.returns-in-Err-open-clause-puts
 returns-in-Err-open-clause-puts g c = λ told.
     let told_1 = c.recover.ensures.told.same ∙ told in
     let left : IsLeft (g.V.Volume.history c.args.vol.now) (g.V.Volume.history c.recover.new.vol) (g.V.Volume.history c.open.new.vol) =
-    record { during = c.in-Ok.ensures.images told; recovered = c.in-Ok.ensures.done told; found = c.in-Ok.found; leaves = c.in-Ok.ensures.leaves told; still = c.open.ensures.during told_1 } in
+    record { during = c.in-Ok.ensures.images told; files = c.in-Ok.ensures.files told; recovered = c.in-Ok.ensures.done told; found = c.in-Ok.found; leaves = c.in-Ok.ensures.leaves told; still = c.open.ensures.during told_1 } in
     unopened c.in-Err-open.fault c.args.slot c.args.tile.now _ _ _ (g.met.V.Volume.present c.open.new.vol (c.open.ensures.told.same ∙ told_1)) left c.in-Err-open.ensures.answers (c.in-Err-open.ensures.refused told_1)
 
 pub returns-in-Err-open-clause-answers : goal.returns-in-Err-open-clause-answers
@@ -25,7 +25,7 @@ returns-clause-puts g c = λ told.
     let told_1 = c.recover.ensures.told.same ∙ told in
     let told_2 = c.open.ensures.told.same ∙ told_1 in
     let left : IsLeft (g.V.Volume.history c.args.vol.now) (g.V.Volume.history c.recover.new.vol) (g.V.Volume.history c.open.new.vol) =
-    record { during = c.in-Ok.ensures.images told; recovered = c.in-Ok.ensures.done told; found = c.in-Ok.found; leaves = c.in-Ok.ensures.leaves told; still = c.open.ensures.during told_1 } in
+    record { during = c.in-Ok.ensures.images told; files = c.in-Ok.ensures.files told; recovered = c.in-Ok.ensures.done told; found = c.in-Ok.found; leaves = c.in-Ok.ensures.leaves told; still = c.open.ensures.during told_1 } in
     put c.put_blob.result c.args.slot c.args.tile.now _ _ _ _ c.requires.slot (g.met.V.Volume.present c.args.vol.now told) (g.met.V.Volume.present c.put_blob.new.vol (c.put_blob.ensures.told.same ∙ told_2)) left (c.in-Ok-open.ensures.ok told_1).opens
     (record {
       done = c.put_blob.ensures.done told_2;

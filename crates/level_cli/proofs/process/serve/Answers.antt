@@ -1,4 +1,5 @@
 use Rattle.std.proofs.Common.{inl, inr, refl, subst, sym, ◌∙◌}
+use Rattle.std.proofs.lemmas.Bool.{cases_eq}
 use Rattle.program_ends.specs.Stop.{line_by}
 use Rattle.level_cli.specs.Commands.{IsNoCommand, IsSpelled}
 use Rattle.program_ends.proofs.Words.{told_words}
@@ -50,3 +51,19 @@ returns-in-Ok-clause-shelf_failed g c = rw c.exit_code.ensures c.run_level.ensur
 
 pub returns-in-Ok-clause-volume_failed : goal.returns-in-Ok-clause-volume_failed
 returns-in-Ok-clause-volume_failed g c = rw c.exit_code.ensures c.run_level.ensures.volume_failed
+
+pub returns-in-Ok-clause-some_run : goal.returns-in-Ok-clause-some_run
+returns-in-Ok-clause-some_run g c = elim (cases_eq c.run_level.result 1) [
+  | inl one ↦ inl (c.exit_code.ensures ∙ one)
+  | inr other ↦ let s = c.run_level.ensures.spelled other in inr (inr (_, (s.0, (s.1, rw c.exit_code.ensures (c.run_level.ensures.ran s.0 s.1)))))
+]
+
+pub returns-in-Err-clause-some_run : goal.returns-in-Err-clause-some_run
+unfolding line_by
+returns-in-Err-clause-some_run g c = inr (inl (record {
+  status_is = c.end_without_memory.ensures.status;
+  source = refl;
+  output = refl;
+  level = refl;
+  line = c.end_without_memory.ensures.line;
+}))

@@ -1,4 +1,4 @@
-use Rattle.outside_io.specs.inside.Present.{only_settled}
+use Rattle.outside_io.specs.Present.{only_settled}
 use Rattle.outside_io.proofs.VolumeLemmas.Images.{settled_image}
 use Rattle.outside_io.proofs.laws.settled_has_one_image.Goals as goal
 

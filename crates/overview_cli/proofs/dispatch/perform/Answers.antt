@@ -8,6 +8,7 @@ returns-in-Err-clause-done g c = record {
   taken = Err c.in-Err.stop;
   takes = c.in-Err.ensures.takes;
   reading = c.in-Err.ensures.reading;
+  from_rests = c.in-Err.ensures.rests;
   ends = (refl, (c.in-Err.ensures.none, (refl, refl)));
 }
 
@@ -19,6 +20,7 @@ returns-clause-done g c = record {
   taken = Ok c.in-Ok.updates;
   takes = c.in-Ok.ensures.takes;
   reading = c.in-Ok.ensures.reading;
+  from_rests = c.in-Ok.ensures.rests;
   ends = rw (sym c.as_slice.ensures.value) (c.put_overview.ensures.volume, c.put_overview.ensures.output);
 }
 

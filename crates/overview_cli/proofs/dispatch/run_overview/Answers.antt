@@ -1,5 +1,6 @@
 use Rattle.std.proofs.Common.{ap, sym, ◌∙◌}
 use Rattle.program_ends.proofs.Ends.{memory_at, ok_at, output_status, some_status, unsaid, usage_at, usage_said, volume_at}
+use Rattle.opened_bundle.proofs.BundleOpening.{keeps_start}
 use Rattle.overview_cli.specs.Names.{refusal_status, refusal_text, status_at, usage_text}
 use Rattle.overview_cli.specs.declared.refusal.Refusal.TheVariants.{Store}
 use Rattle.overview_cli.proofs.OneEnd.{told_files}
@@ -41,7 +42,7 @@ returns-clause-ran g c = λ command spelled. record {
 }
 
 pub returns-clause-from_keeps : goal.returns-clause-from_keeps
-returns-clause-from_keeps g c = λ command spelled start ready. (c.act-ended.ensures.done command spelled).reading.tiles start ready
+returns-clause-from_keeps g c = λ command spelled told sound. keeps_start _ _ (c.act-ended.ensures.done command spelled).reading told sound
 
 pub returns-clause-to_keeps : goal.returns-clause-to_keeps
 returns-clause-to_keeps g c = λ command spelled start ready. to_keeps command _ _ _ _ _ start (c.act-ended.ensures.done command spelled) (λ same. ap g.W.Volume.history same) ready

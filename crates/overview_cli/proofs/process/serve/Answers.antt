@@ -1,4 +1,5 @@
 use Rattle.std.proofs.Common.{inl, inr, refl, subst, sym, ◌∙◌}
+use Rattle.std.proofs.lemmas.Bool.{cases_eq}
 use Rattle.program_ends.specs.Stop.{line_by}
 use Rattle.program_ends.proofs.Words.{told_words}
 use Rattle.overview_cli.specs.Commands.{IsNoCommand, IsSpelled}
@@ -33,3 +34,25 @@ returns-in-Err-clause-usage g c = λ texts told none. inr (record {
   output = refl;
   line = c.end_without_memory.ensures.line;
 })
+
+pub returns-in-Ok-clause-output_failed : goal.returns-in-Ok-clause-output_failed
+returns-in-Ok-clause-output_failed g c = rw c.exit_code.ensures c.run_overview.ensures.output_failed
+
+pub returns-in-Ok-clause-volume_failed : goal.returns-in-Ok-clause-volume_failed
+returns-in-Ok-clause-volume_failed g c = rw c.exit_code.ensures c.run_overview.ensures.volume_failed
+
+pub returns-in-Ok-clause-some_run : goal.returns-in-Ok-clause-some_run
+returns-in-Ok-clause-some_run g c = elim (cases_eq c.run_overview.result.status 1) [
+  | inl one ↦ inl (c.exit_code.ensures ∙ one)
+  | inr other ↦ let s = c.run_overview.ensures.spelled other in inr (inr (_, (s.0, (s.1, (c.run_overview.result.marks.marks, rw c.exit_code.ensures (c.run_overview.ensures.ran s.0 s.1))))))
+]
+
+pub returns-in-Err-clause-some_run : goal.returns-in-Err-clause-some_run
+unfolding line_by
+returns-in-Err-clause-some_run g c = inr (inl (record {
+  status_is = c.end_without_memory.ensures.status;
+  from_same = refl;
+  to_same = refl;
+  output = refl;
+  line = c.end_without_memory.ensures.line;
+}))

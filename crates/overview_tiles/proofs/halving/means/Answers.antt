@@ -1,50 +1,48 @@
-use Rattle.std.proofs.Common.{rules, ◌≡◌, ◌≢◌, ◌<◌, ◌+◌, ◌*◌, length, get_or, ap, sym, subst, ◌∙◌, arith, ⊎_elim, w64, FitsSigned, to_z, of_z}
-use Rattle.std.specs.Prelude.{pos, ◌*ℤ◌, ◌≤ℤ◌}
-use Rattle.std.proofs.Math.ListN.{set}
-use Rattle.std.proofs.lemmas.Bool.{cases_eq}
-use Rattle.std.proofs.lemmas.Int.{to_z-of_z}
-use Rattle.std.proofs.lemmas.List.{get_or_default, get_or-set_same, get_or-set_other}
+use Rattle.std.proofs.Common.{◌≡◌, ℕ, ℤ, List, ◌<◌, ◌≤◌, ◌+◌, ◌*◌, ◌-◌, cond, length, get_or, take, drop, ap, sym, subst, ◌∙◌, arith}
+use Rattle.std.specs.Prelude.{pos, nat_lt, ◌*ℤ◌, ◌≤ℤ◌}
+use Rattle.std.proofs.lemmas.Int.{ints}
+use Rattle.std.proofs.lemmas.List.{get_or-drop, get_or-take, get_or_default, length-drop, length-take-le}
 use Rattle.raster_cells.specs.PixelType.{InRange, type_least, type_greatest}
-use Rattle.raster_cells.proofs.ValueBits.{zero_in_range}
-use Rattle.overview_tiles.specs.inside.Means.{mean_at}
-use Rattle.overview_tiles.proofs.Tiled.{sum_round}
-use Rattle.overview_tiles.proofs.Filling.{mean_round}
+use Rattle.overview_tiles.specs.Half.{mean_of}
+use Rattle.overview_tiles.proofs.Steps.{place_few}
+use Rattle.overview_tiles.proofs.Tiled.{sum_bound}
 use Rattle.overview_tiles.proofs.halving.means.Goals as goal
 
-pub loop-i-preserved : goal.loop-i-preserved
-loop-i-preserved c =
-    let out = c.loop-i.out in
-    let i = c.loop-i.i in
-    let k = c.args.place + i in
+-- where all of a piece are four, each is
+four : (counts : List ℕ) (place n i : ℕ) → i < n → place + n ≤ length counts
+    → ((k : ℕ) → k < length (take (place + n - place) (drop place counts)) → get_or (take (place + n - place) (drop place counts)) k 0 ≡ 4) → get_or counts (place + i) 0 ≡ 4
+four counts place n i less few all =
+    let behind : length (drop place counts) ≡ length counts - place = length-drop place counts in
+    let size : length (take (place + n - place) (drop place counts)) ≡ place + n - place = length-take-le (place + n - place) (drop place counts) (omega (arith, behind, few)) in
+    sym (get_or-take (place + n - place) (drop place counts) i 0 (omega (arith, less)) ∙ get_or-drop place counts i 0) ∙ all i (omega (arith, less, size))
+
+pub means_of_four-requires-clause-room : goal.means_of_four-requires-clause-room
+means_of_four-requires-clause-room c i less =
+    place_few (c.args.place + i) c.args.d (length c.args.counts.now) c.args.depth (length c.args.sums.now) (omega (arith, less, c.requires.within)) c.requires.depth c.requires.sums
+
+pub means_of_four-requires-clause-within : goal.means_of_four-requires-clause-within
+means_of_four-requires-clause-within c i less =
+    let kind = c.requires.bounded.0 in
     let counts = c.args.counts.now in
     let sums = c.args.sums.now in
-    let n = get_or counts k 0 in
-    let x = get_or sums (k * c.args.depth + c.args.d) (pos 0) in
-    let z = c.mean_or_zero.result in
-    let v = to_z w64 (of_z w64 z) in
-    let fits : FitsSigned w64 z = search rules in
-    let is : v ≡ z = to_z-of_z w64 z fits in
-    let inside : i < length out = omega (arith, c.loop-i-test.true, c.loop-i.auto.out) in
-    let under : k < length counts = omega (arith, inside, c.loop-i.auto.out, c.requires.within) in
-    let here : get_or (set out i v) i (pos 0) ≡ z = get_or-set_same out i v (pos 0) inside ∙ is in
-    let round : 0 < n → to_z w64 (of_z w64 x) ≡ x = λ some. sum_round c.requires.bounded.0 (length counts) c.args.depth k c.args.d counts sums c.requires.bounded.1 under c.requires.depth some in
-    let mean : z ≡ mean_at c.args.depth counts sums c.args.d k = c.mean_or_zero.ensures.value ∙ mean_round n (to_z w64 (of_z w64 x)) x round in
-    record {
-      values = λ j less. ⊎_elim
-          (λ (same : j ≡ i).
-          ap (λ m. get_or (set out i v) m (pos 0)) same ∙ here ∙ mean ∙ ap (λ m. mean_at c.args.depth counts sums c.args.d (c.args.place + m)) (sym same))
-          (λ (ne : j ≢ i). get_or-set_other out i j v (pos 0) ne ∙ c.loop-i.invariant.values j (omega (arith, less, ne)))
-          (cases_eq j i);
-      in_range = λ kind h j less. ⊎_elim
-          (λ (same : j ≡ i).
-          let zero = zero_in_range kind in
-          let low : 0 < n → (pos n *ℤ type_least kind) ≤ℤ to_z w64 (of_z w64 x) = λ some. subst (λ y. (pos n *ℤ type_least kind) ≤ℤ y) (sym (round some)) (h.least k c.args.d under c.requires.depth some) in
-          let high : 0 < n → to_z w64 (of_z w64 x) ≤ℤ (pos n *ℤ type_greatest kind) = λ some. subst (λ y. y ≤ℤ (pos n *ℤ type_greatest kind)) (sym (round some)) (h.greatest k c.args.d under c.requires.depth some) in
-          let value : InRange kind z = (c.mean_or_zero.ensures.least (type_least kind) zero.0 low, c.mean_or_zero.ensures.greatest (type_greatest kind) zero.1 high) in
-          subst (InRange kind) (sym (ap (λ m. get_or (set out i v) m (pos 0)) same ∙ here)) value)
-          (λ (ne : j ≢ i). subst (InRange kind) (sym (get_or-set_other out i j v (pos 0) ne)) (c.loop-i.invariant.in_range kind h j (omega (arith, less, ne))))
-          (cases_eq j i);
-    }
+    let k = c.args.place + i in
+    let four_is = four counts c.args.place (length c.args.out.now) i less c.requires.within (c.are_four.ensures c.if-are_four.true) in
+    let small = sum_bound kind (length counts) c.args.depth k c.args.d counts sums c.requires.bounded.1 (omega (arith, less, c.requires.within)) c.requires.depth (omega (arith, four_is)) in
+    (omega (arith, ints, small.0), omega (arith, ints, small.1))
 
-pub returns-clause-in_range : goal.returns-clause-in_range
-returns-clause-in_range c kind h k d less = subst (InRange kind) (get_or_default c.loop-i.out k (pos 0) d less) (c.loop-i.invariant.in_range kind h k (omega (arith, less, c.loop-i-test.false)))
+pub returns-then-are_four-clause-values : goal.returns-then-are_four-clause-values
+returns-then-are_four-clause-values c i less =
+    let x = get_or c.args.sums.now ((c.args.place + i) * c.args.depth + c.args.d) (pos 0) in
+    c.means_of_four.ensures.values i less ∙ ap (λ n. cond (nat_lt 0 n) (mean_of x (pos n)) (pos 0)) (sym (four c.args.counts.now c.args.place (length c.args.out.now) i less c.requires.within (c.are_four.ensures c.if-are_four.true)))
+
+pub returns-then-are_four-clause-in_range : goal.returns-then-are_four-clause-in_range
+returns-then-are_four-clause-in_range c kind h k d less =
+    let out = c.means_of_four.new.out in
+    let inside : k < length c.args.out.now = omega (arith, less, c.means_of_four.auto.out) in
+    let place = c.args.place + k in
+    let four_is = four c.args.counts.now c.args.place (length c.args.out.now) k inside c.requires.within (c.are_four.ensures c.if-are_four.true) in
+    let under : place < length c.args.counts.now = omega (arith, inside, c.requires.within) in
+    let x = get_or c.args.sums.now (place * c.args.depth + c.args.d) (pos 0) in
+    let low : (pos 4 *ℤ type_least kind) ≤ℤ x = subst (λ n. (pos n *ℤ type_least kind) ≤ℤ x) four_is (h.least place c.args.d under c.requires.depth (omega (arith, four_is))) in
+    let high : x ≤ℤ (pos 4 *ℤ type_greatest kind) = subst (λ n. x ≤ℤ (pos n *ℤ type_greatest kind)) four_is (h.greatest place c.args.d under c.requires.depth (omega (arith, four_is))) in
+    subst (InRange kind) (get_or_default out k (pos 0) d less) (c.means_of_four.ensures.least k (type_least kind) inside low, c.means_of_four.ensures.greatest k (type_greatest kind) inside high)

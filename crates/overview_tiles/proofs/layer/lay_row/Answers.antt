@@ -11,8 +11,8 @@ loop-col-init c = record {
 
 pub lay_piece-requires-clause-fits : goal.lay_piece-requires-clause-fits
 lay_piece-requires-clause-fits c =
-    fits_part c.args.frame c.args.raster.now (c.args.row * c.args.frame.cols) c.loop-col.col c.min-count.result c.args.frame.cols c.args.counts.now c.loop-col.counts
-    (omega (arith, c.min-count.ensures, c.loop-col.invariant.high)) c.loop-col.auto.counts c.requires.fits c.loop-col.invariant.marks
+    fits_part c.args.frame c.args.raster.now (c.args.row * c.args.frame.cols) c.loop-col.col c.piece_of-count.result c.args.frame.cols c.args.counts.now c.loop-col.counts
+    (omega (arith, c.piece_of-count.ensures.within, c.loop-col.invariant.high)) c.loop-col.auto.counts c.requires.fits c.loop-col.invariant.marks
 
 pub lay_piece-requires-clause-within : goal.lay_piece-requires-clause-within
 lay_piece-requires-clause-within c =
@@ -29,9 +29,9 @@ loop-col-preserved c =
     let r = c.args.raster.now in
     let from = c.args.row * f.cols in
     let n = c.loop-col.col in
-    let m = c.min-count.result in
+    let m = c.piece_of-count.result in
     record {
-      high = omega (arith, c.min-count.ensures, c.loop-col.invariant.high);
+      high = omega (arith, c.piece_of-count.ensures.within, c.loop-col.invariant.high);
       marks = marks_join f r from n m c.args.counts.now c.loop-col.counts c.lay_piece.new.counts c.loop-col.auto.counts c.loop-col.invariant.marks c.lay_piece.ensures.counts;
       values = values_join f r from n m (r.rows * r.cols) c.args.sums.now c.loop-col.sums c.lay_piece.new.sums c.loop-col.invariant.values c.lay_piece.ensures.sums;
     }

@@ -12,6 +12,7 @@ use Rattle.bundle_store.specs.Tiles.{tiles}
 use Rattle.bundle_store.proofs.GroupStanding.{in_all_over, in_group_closing}
 use Rattle.bundle_store.proofs.GroupWrites.{new_slots}
 use Rattle.bundle_store.proofs.Midway.{redo_midway}
+use Rattle.bundle_store.proofs.Ways.{tiles_way, writing_way}
 use Rattle.bundle_store.proofs.put.steps.redo.Goals as goal
 
 pub returns-in_err-write_all_over-clause-changes : goal.returns-in_err-write_all_over-clause-changes
@@ -60,3 +61,12 @@ pub returns-clause-bytes : goal.returns-clause-bytes
 returns-clause-bytes g c = λ told.
     redo_midway c.args.header.now c.args.group.now _ _ _ _ c.requires.header (new_slots c.args.group.now c.requires.new) (c.requires.long told) (during_map _ _ _ _ (λ d keeps. keeps.bundle) (c.write_all_over.ensures.changes.during told))
     (ap (λ (d : Disk). d.bundle) (c.in_ok-write_all_over.ensures.done told)) (c.close_gate.ensures.during (c.write_all_over.ensures.changes.same ∙ told))
+
+pub returns-in_err-write_all_over-clause-files : goal.returns-in_err-write_all_over-clause-files
+returns-in_err-write_all_over-clause-files g c = λ told size place these fits.
+    writing_way (g.V.Volume.history c.args.vol.now) _ (c.requires.quiet told) (c.requires.opened told) c.args.group.now c.args.header.now size place these fits (c.write_all_over.ensures.changes.during told)
+
+pub returns-clause-files : goal.returns-clause-files
+returns-clause-files g c = λ told size place these fits.
+    tiles_way (g.V.Volume.history c.args.vol.now) _ (c.requires.quiet told) (c.requires.opened told) c.args.group.now c.args.header.now size place these fits (c.write_all_over.ensures.changes.during told)
+    _ (c.in_ok-write_all_over.ensures.done told) (c.close_gate.ensures.during (c.write_all_over.ensures.changes.same ∙ told))

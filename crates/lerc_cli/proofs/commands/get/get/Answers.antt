@@ -1,8 +1,9 @@
-use Rattle.std.proofs.Common.{ℕ, List, Ok, Err, refl, subst}
+use Rattle.std.proofs.Common.{◌≡◌, ℕ, List, Ok, Err, refl, subst}
+use Rattle.program_ends.specs.declared.stop.Stop.TheVariants.{Volume}
 use Rattle.lerc_cli.specs.inside.Opening.{DecodesTile}
 use Rattle.opened_bundle.proofs.BundleOpening.{reads_as}
 use Rattle.lerc_cli.proofs.AnswerLemmas.Got.{grid_cut, grid_gave, tile_stopped}
-use Rattle.lerc_cli.proofs.CrashLemmas.Resting.{rests_undecoded}
+use Rattle.lerc_cli.proofs.CrashLemmas.Resting.{rests_undecoded, undecoded_alone}
 use Rattle.lerc_cli.proofs.AnswerLemmas.Stores.{store_reads}
 use Rattle.lerc_cli.proofs.CrashLemmas.Resting.{rests_store}
 use Rattle.lerc_cli.proofs.AnswerLemmas.Got.{grid_stopped}
@@ -44,3 +45,7 @@ returns-in-Err-clause-output g c = λ input. rw c.store_stop.ensures (grid_stopp
 
 pub returns-in-Err-clause-volume : goal.returns-in-Err-clause-volume
 returns-in-Err-clause-volume g c = rw c.store_stop.ensures (store_reads _ _ c.in-Err.stop _ c.in-Err.ensures.volume)
+
+pub returns-in-Err-decode_tile-clause-volume : goal.returns-in-Err-decode_tile-clause-volume
+returns-in-Err-decode_tile-clause-volume g c =
+    reads_as _ _ _ (λ is. absurd cc) (λ is. absurd (undecoded_alone _ c.in-Err-decode_tile.stop c.in-Err-decode_tile.ensures (let same : c.in-Err-decode_tile.stop ≡ Volume = cc in same))) c.in-Ok.ensures.volume

@@ -1,6 +1,6 @@
 use Rattle.std.proofs.Common.{◌≡◌, ◌*◌, ℤ, List, length, ap, sym, subst, arith, ◌∙◌}
 use Rattle.std.specs.Prelude.{IfErr, All}
-use Rattle.std.proofs.lemmas.List.{length-map}
+use Rattle.std.proofs.lemmas.List.{length-drop, length-map, take_rest}
 use Rattle.std.proofs.lemmas.Int.{ints, to_z-of_z}
 use mir.Syntax.{w64}
 use mir.Val.{SFits, of_z, to_z}
@@ -12,8 +12,7 @@ use Rattle.raster_cells.proofs.ValueBits.{same_bits}
 use Rattle.raster_values.specs.Flat.{marks_of}
 use Rattle.micro_block.specs.declared.context.SteppedBlock.{SteppedBlock}
 use Rattle.micro_block.specs.ReadSteps.{stepped_values}
-use Rattle.lerc_grammar.specs.Blocks.{first_block_faults}
-use Rattle.lerc_decode.specs.inside.Maxima.{top_in}
+use Rattle.lerc_decode.specs.inside.ImageBlocks.{IsBlockFault}
 use Rattle.lerc_decode.proofs.Filling.{keeps, same_frame}
 use Rattle.lerc_decode.proofs.BlockReading.{row_begins, col_begins, one_read, one_fault, square_within}
 use Rattle.lerc_decode.proofs.blob.blocks.read_one.Goals as goal
@@ -73,9 +72,13 @@ returns-in-Ok-clause-ok g c =
 
 pub returns-in-Err-clause-fault : goal.returns-in-Err-clause-fault
 returns-in-Err-clause-fault g c =
-    subst (λ r. IfErr r (λ f. first_block_faults c.args.blocks.now.header.now (marks_of (g.T.Target.pixels c.args.raster.now)) (top_in c.args.blocks.now.header.now c.args.blocks.now.maxima.now) c.args.blocks.now.rest.now f.place f.reason)) (sym c.refuse_block.ensures)
-    (one_fault c.args.blocks.now.header.now (g.T.Target.pixels c.args.raster.now) c.args.blocks.now.maxima.now c.args.blocks.now.rest.now _ c.args.a c.args.b c.args.d c.args.at (length c.args.numbers.now) c.in-Err.fault
-    c.requires.square c.requires.depth c.requires.shaped.shape (same_bits c.args.blocks.now.header.now.kind c.at.result c.at.ensures.in_range ∙ c.at.ensures.value) c.requires.count c.requires.read ((c.read_steps.ensures.fault c.in-Err.fault).0 c.in-Err.is))
+    let rest = c.args.blocks.now.rest.now in
+    subst (λ r. IfErr r (IsBlockFault c.args.blocks.now (marks_of (g.T.Target.pixels c.args.raster.now)))) (sym c.refuse_block.ensures)
+    (record {
+      first = one_fault c.args.blocks.now.header.now (g.T.Target.pixels c.args.raster.now) c.args.blocks.now.maxima.now rest _ c.args.a c.args.b c.args.d c.args.at (length c.args.numbers.now) c.in-Err.fault
+          c.requires.square c.requires.depth c.requires.shaped.shape (same_bits c.args.blocks.now.header.now.kind c.at.result c.at.ensures.in_range ∙ c.at.ensures.value) c.requires.count c.requires.read ((c.read_steps.ensures.fault c.in-Err.fault).0 c.in-Err.is);
+      near = omega (arith, c.requires.read.within, c.in-Err.ensures.within, ap length (take_rest rest c.args.at), length-drop c.args.at rest);
+    })
 
 pub overflow_mul-row : goal.overflow_mul-row
 overflow_mul-row g c =

@@ -21,12 +21,12 @@ slice_bounds-read_depths-end-2 g c =
     let count = c.block_valid_count-count in
     let low = few c.args.blocks.now.header.now.side count.result c.args.blocks.now.topped.head.side_below
     count.ensures.within in
-    sym (length-take-le count.result c.args.room.now (omega (arith, low, c.requires.room)))
+    sym (length-take-le count.result c.args.room.now (omega (arith, low)))
 
 pub read_depths-requires-clause-count : goal.read_depths-requires-clause-count
 read_depths-requires-clause-count g c =
     let count = c.block_valid_count-count in
     let low = few c.args.blocks.now.header.now.side count.result c.args.blocks.now.topped.head.side_below
     count.ensures.within in
-    length-take-le count.result c.args.room.now (omega (arith, low, c.requires.room))
+    length-take-le count.result c.args.room.now (omega (arith, low))
     ∙ count.ensures.value

@@ -5,10 +5,11 @@ use Rattle.lerc_decode.proofs.Bodies.{coded_there, plain_fault, err_map, few_val
 use Rattle.lerc_decode.proofs.blob.body.read_plain.Goals as goal
 
 pub scatter_plain-requires-clause-coded : goal.scatter_plain-requires-clause-coded
-scatter_plain-requires-clause-coded g c = record { marked = c.requires.marked; byte = c.requires.form.tells.0.0 }
-
-pub scatter_plain-requires-clause-values : goal.scatter_plain-requires-clause-values
-scatter_plain-requires-clause-values g c = few_values c.args.blob.now.bytes.now c.args.blob.now.header c.args.blob.now.head
+scatter_plain-requires-clause-coded g c = record {
+  marked = c.requires.marked;
+  byte = c.requires.form.tells.0.0;
+  few = few_values c.args.blob.now.bytes.now c.args.blob.now.header c.args.blob.now.head;
+}
 
 pub returns-clause-read : goal.returns-clause-read
 returns-clause-read g c =

@@ -3,7 +3,7 @@ use Rattle.std.proofs.lemmas.Result.{IfOk-weaker}
 use Rattle.outside_io.specs.declared.volume.VolFile.TheVariants.{Bundle, Journal}
 use Rattle.outside_io.specs.volume.Disk.{IsImage, IsQuiet}
 use Rattle.outside_io.specs.volume.History.{contents, current}
-use Rattle.outside_io.specs.inside.Present.{octets_sparse, sound_recorded}
+use Rattle.outside_io.specs.Present.{octets_sparse, sound_recorded}
 use Rattle.outside_io.specs.volume.Recorded.{Recorded, history_of}
 use Rattle.outside_io.specs.volume.Sparse.{SparseFile, sparse_bytes}
 use Rattle.outside_io.proofs.Inside.Torn.{picked_image}

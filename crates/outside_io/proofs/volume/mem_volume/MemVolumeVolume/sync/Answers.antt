@@ -1,4 +1,4 @@
-use Rattle.outside_io.specs.inside.Present.{sound_recorded}
+use Rattle.outside_io.specs.Present.{sound_recorded}
 use Rattle.outside_io.proofs.Inside.Struck.{struck_sync}
 use Rattle.outside_io.proofs.volume.mem_volume.MemVolumeVolume.sync.Goals as goal
 

@@ -1,0 +1,5 @@
+mod Ends
+mod Opened
+mod Performing
+mod Refusing
+mod Spelled

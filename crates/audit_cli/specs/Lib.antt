@@ -1,0 +1,22 @@
+pub use Rattle.outside_io.specs.program.Line
+pub use Rattle.outside_io.specs.streams.Faults
+pub use Rattle.outside_io.specs.streams.Sink
+pub use Rattle.outside_io.specs.volume.History
+pub use Rattle.side_journal.specs.Says
+pub use Rattle.bundle_store.specs.Session as Sessions
+pub use Rattle.bundle_store.specs.Tiles
+pub use Rattle.command_words.specs.Words
+pub use Rattle.opened_bundle.specs.Files
+pub use Rattle.program_ends.specs.Arguments
+pub use Rattle.program_ends.specs.Moves
+pub use Rattle.program_ends.specs.Stop
+pub use Rattle.tile_audit.specs.Audit
+pub use Rattle.tile_audit.specs.Gave
+pub use Rattle.tile_audit.specs.Laws
+pub use Rattle.tile_audit.specs.Lines
+pub use Rattle.tile_audit.specs.Sums
+pub use Rattle.tile_audit.specs.Verdicts
+pub mod Commands
+pub mod Names
+pub mod Opening
+pub mod Run

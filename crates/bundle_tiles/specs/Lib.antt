@@ -1,0 +1,20 @@
+pub use Rattle.first_fault.specs.Faults
+pub use Rattle.first_fault.specs.Parts
+pub use Rattle.outside_io.specs.streams.Faults as StreamFaults
+pub use Rattle.outside_io.specs.streams.Sink
+pub use Rattle.outside_io.specs.streams.Source
+pub use Rattle.outside_io.specs.volume.History
+pub use Rattle.raster_grids.specs.Taken
+pub use Rattle.bundle_store.specs.Build
+pub use Rattle.bundle_store.specs.GroupPuts
+pub use Rattle.bundle_store.specs.Session
+pub use Rattle.bundle_store.specs.Tiles
+pub use Rattle.bundle_lines.specs.Lines
+pub use Rattle.bundle_lines.specs.Puts
+pub use Rattle.opened_bundle.specs.Refusals
+pub mod RawTile
+pub mod RawStream
+pub mod Exported
+pub mod Imported
+pub mod Laws
+pub mod inside

@@ -1,0 +1,6 @@
+use Rattle.std.proofs.Common.{◌*◌}
+use Rattle.overview_tiles.specs.inside.Comes.{GrowsCounts, in_row, ones}
+use Rattle.overview_tiles.proofs.layer.add_whole_pairs.Given as goal
+
+abbrev pub invariant-loop-k : goal.invariant-loop-k
+invariant-loop-k l = GrowsCounts (in_row l.base l.col) ones (2 * l.k) l.initial.counts l.counts

@@ -1,0 +1,9 @@
+mod Cuts
+mod Ended
+mod Ends
+mod Exporting
+mod Fields
+mod Importing
+mod Keeping
+mod Listing
+mod Runs

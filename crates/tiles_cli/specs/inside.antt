@@ -1,0 +1,2 @@
+-- The words of private functions alone: no public clause cites them.
+pub mod Fields
