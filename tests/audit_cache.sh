@@ -78,4 +78,29 @@ audits 'no folder' 1 nowhere results
 totals 3 147 2 0 1 0 0 8
 rm cache/L05/R0100C0000.bundle
 audits 'all again' 0 --days 0 cache results 1
+
+# The same as tasks of a cluster of Dask's, of this machine.
+python=
+for one in ${PYTHON:-python3} /usr/bin/python3; do
+    if "$one" -c 'import distributed' 2>/dev/null; then
+        python=$one
+        break
+    fi
+done
+if [ -n "$python" ]; then
+    DASK_TEMPORARY_DIRECTORY=$room
+    export DASK_TEMPORARY_DIRECTORY
+    bundle cache/L05/R0000C0000.bundle '{0: turned(STEPS, 570)}'
+    totals 4 219 2 0 1 0 1 8
+    printf 'L05/R0000C0000\t0\t0\t131140\t72\t53a9a059\tdamaged\tBadChecksum\t10\t-\t-\t-\t-\t-\t-\n' >>wanted
+    "$python" "$here/examples/audit/with_dask.py" --days 30 cache results local >out 2>err
+    count 'a bundle that is owed, by Dask' "$([ $? -eq 9 ] && cmp -s out wanted && grep -qx '1 of 1 bundles' err && echo yes || { cat out err >&2; echo no; })"
+    "$python" "$here/examples/audit/with_dask.py" cache results >out 2>err
+    count 'and then none' "$([ $? -eq 9 ] && cmp -s out wanted && ! [ -s err ] && echo yes || echo no)"
+    rm -r results
+    "$python" "$here/examples/audit/with_dask.py" --strict cache results >out 2>err
+    count 'all, strictly, by Dask' "$([ $? -eq 9 ] && grep -q 'foreign' out && grep -qx '3 of 3 bundles' err && echo yes || { cat out err >&2; echo no; })"
+else
+    echo 'audit_cache: no Dask is here, examples/audit/with_dask.py is not tried'
+fi
 tell

@@ -25,6 +25,7 @@ micro_block read_block
 micro_block read_values
 micro_block write_block
 micro_block write_distances
+tile_audit judge
 tiles_cli read_slots
 NAMES
 

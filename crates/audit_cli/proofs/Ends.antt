@@ -1,5 +1,5 @@
 -- How a run ends, by what its command left.
-use Rattle.std.proofs.Common.{◌≡◌, ◌≢◌, ◌⊎◌, inl, inr, ℕ, suc, ◌+◌, ◌<◌, ◌≤◌, ◌==◌, if◌then◌else◌, Bool, true, false, List, [], ◌∷◌, All, length, Option, Some, Ok, Err, refl, sym, ap, subst, ◌∙◌, arith}
+use Rattle.std.proofs.Common.{◌≡◌, ◌≢◌, ◌⊎◌, inl, inr, ℕ, ◌+◌, ◌==◌, if◌then◌else◌, Bool, true, false, List, [], ◌∷◌, All, length, Ok, Err, refl, sym, ap, subst, ◌∙◌, arith}
 use Rattle.std.specs.Prelude.{IsTrue, cond, count_by}
 use Rattle.std.proofs.lemmas.Bool.{cases_eq}
 use Rattle.std.proofs.lemmas.Bool.Decides.{nat_tests}
@@ -9,17 +9,15 @@ use Rattle.outside_io.specs.declared.volume.VolFile.TheVariants.{Bundle}
 use Rattle.outside_io.specs.program.Line.{GivesLine}
 use Rattle.outside_io.specs.volume.History.{contents}
 use Rattle.opened_bundle.specs.Files.{files_of}
-use Rattle.opened_bundle.specs.declared.refusal.StoreRefusal.{StoreRefusal}
 use Rattle.program_ends.specs.Moves.{SinkMove, VolumeMove}
 use Rattle.program_ends.specs.Stop.{IsRefusalStatus}
-use Rattle.program_ends.specs.declared.stop.Stop.{Stop}
 use Rattle.program_ends.specs.declared.stop.Stop.TheVariants.{Usage, Source, Output, Volume, OutOfMemory, Refused}
 use Rattle.tile_audit.specs.declared.told.AuditedTile.{AuditedTile}
 use Rattle.tile_audit.specs.Audit.{is_damaged}
 use Rattle.tile_audit.specs.Laws.{IsClean}
 use Rattle.tile_audit.proofs.Audits.{clean_audit}
 use Rattle.audit_cli.specs.Names.{End, GivesLineOf, audited_end, end_of_counts, line_of, refusal_status, status_at}
-use Rattle.audit_cli.specs.Opening.{Refuses, files_at}
+use Rattle.audit_cli.specs.Opening.{Refuses}
 use Rattle.audit_cli.specs.Run.{AuditsAll, EndsEarly, GaveLines, GavePrefix, OfAudit, OfEnd}
 use Rattle.audit_cli.specs.declared.command.Command.{Command}
 use Rattle.audit_cli.specs.declared.refusal.Refusal.{Refusal}

@@ -1,5 +1,5 @@
 -- What opening leaves, as the run's own end.
-use Rattle.std.proofs.Common.{◌≡◌, ◌⊎◌, inl, inr, ℕ, ◌+◌, ◌<◌, ◌≤◌, ◌==◌, Bool, true, false, if◌then◌else◌, List, [], length, Option, Some, None, Ok, Err, refl, sym, ap, subst, ◌∙◌, arith}
+use Rattle.std.proofs.Common.{◌≡◌, ◌⊎◌, inl, inr, ℕ, ◌+◌, ◌<◌, ◌≤◌, ◌==◌, Bool, true, false, if◌then◌else◌, List, [], length, Some, Ok, Err, refl, sym, subst, ◌∙◌, arith}
 use Rattle.std.specs.Prelude.{IfSome, IsTrue}
 use Rattle.outside_io.specs.declared.volume.VolFile.TheVariants.{Bundle, Journal}
 use Rattle.outside_io.specs.streams.Sink.{Holds}
@@ -16,7 +16,7 @@ use Rattle.side_journal.specs.declared.body.JournalState.TheVariants as state
 use Rattle.side_journal.specs.Says.{IsOpen, IsWrongAt, Says}
 use Rattle.opened_bundle.specs.Files.{Files, files_of}
 use Rattle.opened_bundle.specs.Refusals.{stop_of}
-use Rattle.opened_bundle.specs.declared.refusal.StoreRefusal.TheVariants.{BadBundle, BadJournal, Beyond, Full, NoTile, NotEmpty}
+use Rattle.opened_bundle.specs.declared.refusal.StoreRefusal.TheVariants.{BadBundle, BadJournal}
 use Rattle.program_ends.specs.Moves.{SinkMove, VolumeMove}
 use Rattle.program_ends.specs.declared.stop.Stop.{Stop}
 use Rattle.program_ends.specs.declared.stop.Stop.TheVariants.{Usage, Source, Output, Volume, OutOfMemory, Refused}
@@ -26,7 +26,6 @@ use Rattle.tile_audit.specs.declared.told.AuditedTile.{AuditedTile}
 use Rattle.tile_audit.specs.declared.totals.Totals.{Totals}
 use Rattle.tile_audit.specs.Audit.{CountsFailed, IsAuditBelow, count_of, damaged_count, is_failed}
 use Rattle.tile_audit.specs.Gave.{AreTotals, AuditGave, IsAuditOf, IsAuditOfAll, IsFrontOf}
-use Rattle.tile_audit.specs.Lines.{audit_lines}
 use Rattle.audit_cli.specs.Names.{audit_stop_of, end_of_counts, with_store}
 use Rattle.audit_cli.specs.Opening.{IsAuditable, IsRefused, OpeningStops, files_at}
 use Rattle.audit_cli.specs.Run.{AuditsAll, MayAudit, OfEnd}

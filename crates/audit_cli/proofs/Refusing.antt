@@ -1,20 +1,16 @@
 -- Files have one refusal at most, and none where they may be audited.
-use Rattle.std.proofs.Common.{◌≡◌, ◌≢◌, inl, inr, ℕ, ◌<◌, ◌≤◌, ◌==◌, nat_lt, Bool, true, false, List, [], length, Option, Some, None, Ok, Err, if◌then◌else◌, refl, sym, ap, subst, ◌∙◌, arith}
+use Rattle.std.proofs.Common.{◌≡◌, ◌≢◌, inr, ℕ, ◌==◌, nat_lt, Bool, true, false, List, [], length, Option, Some, None, Ok, Err, if◌then◌else◌, refl, sym, ap, subst, ◌∙◌, arith}
 use Rattle.std.specs.Prelude.{IsTrue}
 use Rattle.std.proofs.lemmas.Bool.Decides.{nat_tests}
 use Rattle.outside_io.specs.volume.History.{History}
 use Rattle.bundle_index.specs.Header.{header_fault}
 use Rattle.bundle_index.specs.declared.header.HeaderFault.{HeaderFault}
 use Rattle.bundle_store.specs.Session.{open_fault}
-use Rattle.bundle_store.specs.Tiles.{HasIndex}
 use Rattle.opened_bundle.specs.Files.{Files, files_of}
-use Rattle.opened_bundle.specs.declared.refusal.StoreRefusal.{StoreRefusal}
 use Rattle.opened_bundle.specs.declared.refusal.StoreRefusal.TheVariants.{BadBundle, BadJournal, Beyond, Full, NoTile, NotEmpty}
 use Rattle.opened_bundle.proofs.OneBundle.{opens_or_fault}
-use Rattle.side_journal.specs.declared.body.Body.{Body}
 use Rattle.side_journal.specs.declared.body.JournalState.{JournalState}
 use Rattle.side_journal.specs.declared.body.JournalState.TheVariants as state
-use Rattle.side_journal.specs.Says.{IsOpen}
 use Rattle.side_journal.proofs.OneState.{one_state}
 use Rattle.program_ends.specs.Moves.{SinkMove, VolumeMove}
 use Rattle.program_ends.specs.declared.stop.Stop.TheVariants.{Usage, Source, Output, Volume, OutOfMemory, Refused}

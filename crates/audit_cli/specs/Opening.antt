@@ -1,5 +1,5 @@
 -- Whether there is a bundle to be audited. Nothing is recovered.
-use Rattle.std.specs.Prelude.{◌≡◌, ℕ, List, [], length, Option, Some, IfSome}
+use Rattle.std.specs.Prelude.{◌≡◌, ℕ, [], length, Option, Some, IfSome}
 use Rattle.outside_io.specs.declared.volume.VolFile.TheVariants.{Bundle, Journal}
 use Rattle.outside_io.specs.volume.History.{History, contents}
 use Rattle.side_journal.specs.declared.body.Body.{Body}

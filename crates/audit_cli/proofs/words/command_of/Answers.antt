@@ -1,4 +1,4 @@
-use Rattle.std.proofs.Common.{length, arith}
+use Rattle.std.proofs.Common.{arith}
 use Rattle.audit_cli.proofs.Spelled.{other_length}
 use Rattle.audit_cli.proofs.words.command_of.Goals as goal
 

@@ -1,4 +1,4 @@
-use Rattle.std.proofs.Common.{rules, ◌≡◌, ◌≢◌, ◌<◌, ◌≤◌, ◌+◌, ◌*◌, ℤ, length, get_or, ap, sym, subst, ◌∙◌, arith, ⊎_elim, w64, FitsSigned, to_z, of_z}
+use Rattle.std.proofs.Common.{rules, ◌≡◌, ◌≢◌, ◌<◌, ◌≤◌, ◌+◌, ◌*◌, length, get_or, ap, sym, subst, ◌∙◌, arith, ⊎_elim, w64, FitsSigned, to_z, of_z}
 use Rattle.std.specs.Prelude.{pos, ◌*ℤ◌, ◌≤ℤ◌}
 use Rattle.std.proofs.Math.ListN.{set}
 use Rattle.std.proofs.lemmas.Bool.{cases_eq}

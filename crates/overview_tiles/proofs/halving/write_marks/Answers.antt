@@ -1,4 +1,4 @@
-use Rattle.std.proofs.Common.{◌-◌, ◌*◌, ℕ, List, get_or, take, drop, ◌∙◌, arith}
+use Rattle.std.proofs.Common.{◌-◌, ◌*◌, ℕ, List, take, drop, ◌∙◌, arith}
 use Rattle.std.proofs.lemmas.List.{get_or-drop, get_or-take}
 use Rattle.overview_tiles.proofs.MarkBytes.{next_byte}
 use Rattle.overview_tiles.proofs.halving.write_marks.Goals as goal

@@ -1,4 +1,4 @@
-use Rattle.std.proofs.Common.{◌≡◌, true, length, ◌∙◌, arith}
+use Rattle.std.proofs.Common.{◌≡◌, length, ◌∙◌, arith}
 use Rattle.std.proofs.lemmas.Int.{ints}
 use Rattle.overview_tiles.proofs.Steps.{piece_comes, piece_counts, total_below, whole_comes, whole_counts}
 use Rattle.overview_tiles.proofs.layer.lay_marks.Goals as goal
