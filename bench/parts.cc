@@ -58,7 +58,7 @@ int main(int count, char **words) {
     std::vector<std::vector<uint8_t>> blobs(many);
     for (uint32_t n = 0; n < many; n++) {
         Raster r = tile(n / across, n % across);
-        size_t size = ours_encode(r, 0, room.data(), room.size());
+        size_t size = ours_encode(r, 4, 0, room.data(), room.size());
         blobs[n].assign(room.begin(), room.begin() + ptrdiff_t(size));
     }
     double best[3] = {1e9, 1e9, 1e9};
@@ -85,7 +85,7 @@ int main(int count, char **words) {
             double begin = seconds();
             sums.halve(one);
             double middle = seconds();
-            ours_encode(one, 0, room.data(), room.size());
+            ours_encode(one, 4, 0, room.data(), room.size());
             took[1] += middle - begin;
             took[2] += seconds() - middle;
         }
