@@ -6,6 +6,7 @@ mod Opening
 mod Telling
 mod Turning
 mod Reading
+mod Ahead
 mod Targets
 mod Getting
 mod Steps

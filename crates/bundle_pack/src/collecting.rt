@@ -4,17 +4,19 @@ ghost use Rattle.std.specs.Prelude.{◌≡◌, ◌≤◌, ◌<◌, IsTrue, IfErr
 ghost use Rattle.outside_io.specs.declared.volume.VolFile.TheVariants.{Bundle};
 ghost use Rattle.outside_io.specs.volume.History.{contents};
 ghost use Rattle.bundle_index.specs.Sizes.{slot_count};
+ghost use Rattle.bundle_store.specs.Ahead.{IsAheadOf};
 ghost use Rattle.bundle_store.specs.Build.{EachFits};
 ghost use Rattle.bundle_store.specs.Session.{Serves};
 ghost use Rattle.bundle_pack.specs.Files.{all_bundles};
 ghost use Rattle.bundle_pack.specs.Sources.{DeviceAt, Each, IsServing};
-ghost use Rattle.bundle_pack.specs.inside.Collecting.{GetSays, IsGetFault, IsStill, ReadFails, TakesTile, TileSays, TilesSay};
+ghost use Rattle.bundle_pack.specs.inside.Collecting.{AreAhead, GetSays, IsGetFault, IsStill, ReadFails, TakesTile, TileSays, TilesSay};
 
 use crate::PackFault;
+use crate::aheads::aheads_of;
 use crate::chosen::choice_at;
 use crate::fault::tile_fault;
 use bundle_index::{SLOT_COUNT, Slot};
-use bundle_store::{Session, StoreFault, TileRec};
+use bundle_store::{Ahead, Session, StoreFault, TileRec};
 use outside_io::{Bytes, Volume};
 use std::alloc::Global;
 
@@ -22,12 +24,17 @@ use std::alloc::Global;
 fn get_tile<V: Volume>(
     session: &Session,
     vol: &mut V,
+    ahead: &mut Ahead,
     at: usize,
     slot: Slot,
 ) -> Result<Option<Bytes>, PackFault>
     requires running { session.now.stopped ≡ false }
     requires serves { IsTrue (V.told vol.old) → Serves session.now (contents Bundle
         (V.history vol.old)) }
+    requires ahead { IsTrue (V.told vol.old) → IsAheadOf (contents Bundle (V.history vol.old))
+        ahead.old }
+    ensures ahead { IsTrue (V.told vol.old) → IsAheadOf (contents Bundle (V.history vol.old))
+        ahead.new }
     ensures still { IsStill V.told V.history V.faults (DeviceAt result at) vol.old vol.new }
     ensures fits { IfOk result (λ o. IfSome o (λ tile. (0 < length tile)
         × (length tile < 16777216))) }
@@ -35,7 +42,7 @@ fn get_tile<V: Volume>(
         result }
     ensures answers { IfErr result (λ f. IsGetFault at slot f) }
 {
-    match session.get(vol, slot) {
+    match session.get_ahead(vol, slot, ahead) {
         Ok(bytes) => Ok(Some(bytes)),
         Err(StoreFault::NoTile) => Ok(None),
         Err(fault) => Err(tile_fault(at, slot, fault)),
@@ -46,12 +53,15 @@ fn get_tile<V: Volume>(
 fn take_tile<V: Volume>(
     sessions: &[Session],
     from: &mut [V],
+    aheads: &mut [Ahead],
     number: u16,
     tiles: &mut Vec<TileRec>,
 ) -> Result<(), PackFault>
     requires number { number < slot_count }
     requires serving { IsServing V.told V.history sessions.now from.old }
+    requires aheads { AreAhead V.told V.history from.old aheads.old }
     requires fits { EachFits tiles.old.items }
+    ensures aheads { AreAhead V.told V.history from.new aheads.new }
     ensures still { Each (λ i v w.
         IsStill V.told V.history V.faults (DeviceAt result i) v w) from.old from.new }
     ensures fits { EachFits tiles.new.items }
@@ -68,7 +78,7 @@ fn take_tile<V: Volume>(
         return Ok(());
     };
     let at = choice.at;
-    match get_tile(&sessions[at], &mut from[at], at, slot) {
+    match get_tile(&sessions[at], &mut from[at], &mut aheads[at], at, slot) {
         Ok(Some(bytes)) => match tiles.push(TileRec { slot, bytes }) {
             Ok(()) => Ok(()),
             Err(_) => Err(PackFault::OutOfMemory),
@@ -92,9 +102,12 @@ pub(crate) fn collect_tiles<V: Volume>(
         (all_bundles V.history from.old) result }
     ensures answers { IfErr result (λ f. ReadFails (length from.old) f) }
 {
+    let Ok(mut aheads) = aheads_of(alloc, sessions) else {
+        return Err(PackFault::OutOfMemory);
+    };
     let mut tiles = Vec::new(alloc);
     for number in 0..SLOT_COUNT {
-        match take_tile(sessions, from, number, &mut tiles) {
+        match take_tile(sessions, from, aheads.as_mut_slice(), number, &mut tiles) {
             Ok(()) => {}
             Err(fault) => return Err(fault),
         }

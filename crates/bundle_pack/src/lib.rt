@@ -8,6 +8,7 @@
 //! moment. `run_pack`, whose contract is the program's, and `serve`, which asks the command line.
 #![tactic(auto)]
 
+mod aheads;
 mod chosen;
 mod collecting;
 mod dispatch;

@@ -1,5 +1,6 @@
 mod Building
 mod Counting
+pub mod Cutting
 mod Filling
 mod Fresh
 mod Fronts
@@ -7,6 +8,7 @@ pub mod GroupEntries
 mod GroupStanding
 mod GroupWrites
 mod Grouping
+mod Gathering
 mod Keeping
 mod Kept
 mod Midway
@@ -25,5 +27,6 @@ mod Region
 mod Rests
 pub mod Standing
 pub mod Starting
+mod TileReads
 mod Unders
 mod Ways

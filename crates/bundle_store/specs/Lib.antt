@@ -11,6 +11,7 @@ pub use Rattle.side_journal.specs.Groups
 pub use Rattle.side_journal.specs.Says
 pub use Rattle.side_journal.specs.Bodies
 pub use Rattle.side_journal.specs.Steps
+pub mod Ahead
 pub mod Appended
 pub mod Build
 pub mod Built

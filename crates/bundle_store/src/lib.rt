@@ -6,12 +6,14 @@
 //! image that a crash may leave stands for the map of tiles before the call or after it.
 #![tactic(auto)]
 
+mod ahead;
 mod build;
 mod check;
 mod fault;
 mod front;
 mod laws;
 mod put;
+mod reading;
 mod recovery;
 mod room;
 mod session;
@@ -20,6 +22,7 @@ mod table;
 mod tile_rec;
 mod updates;
 
+pub use ahead::Ahead;
 pub use build::size::{BuiltSize, built_size};
 pub use check::CheckReport;
 pub use fault::StoreFault;

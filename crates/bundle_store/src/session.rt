@@ -5,6 +5,7 @@ ghost use Rattle.outside_io.specs.declared.volume.VolFile.TheVariants.{Bundle};
 ghost use Rattle.outside_io.specs.volume.History.{During, contents, current};
 ghost use Rattle.bundle_index.specs.Entry.{entry_at};
 ghost use Rattle.bundle_index.specs.Sizes.{slot_count};
+ghost use Rattle.bundle_store.specs.Ahead.{IsAheadOf};
 ghost use Rattle.bundle_store.specs.Causes.{CountsDevice, OnRefusal, UnlessDevice};
 ghost use Rattle.bundle_store.specs.Check.{Reports};
 ghost use Rattle.bundle_store.specs.Appended.{bundle_after_put};
@@ -19,10 +20,12 @@ ghost use Rattle.bundle_store.specs.Told.{Told};
 
 mod header;
 
+use crate::ahead::Ahead;
 use crate::build::build_on;
 use crate::check::check_index;
 use crate::front::Front;
 use crate::put::put_tiles;
+use crate::reading::read_tile;
 use crate::table::{number_tiles, record_buffer};
 use crate::updates::{Updates, check_tiles};
 use crate::{CheckReport, StoreFault, TileRec};
@@ -199,17 +202,56 @@ impl Session {
         if entry.size == 0 {
             return Err(StoreFault::NoTile);
         }
-        let size = entry.size as usize;
-        let mut tile = Vec::with_capacity(self.alloc, size)?;
-        tile.resize(size, 0)?;
-        let got = vol.read(VolFile::Bundle, entry.offset, &mut tile)?;
-        if got < size {
-            return Err(StoreFault::Beyond {
-                entry,
-                got: got as u64,
-            });
+        read_tile(self.alloc, vol, entry)
+    }
+
+    /// The bytes of the slot's tile, as `get` gives them, for callers that read many tiles in the
+    /// order of their slots: they are cut from those that were read at once, and where they are not
+    /// among them they are read with those of the tiles behind it that lie near, at most 1 MiB. A
+    /// tile for which there is no room, or of which the bundle has not all bytes, is read alone.
+    /// In this order Stopped, NoTile, Device for bytes read at once, OutOfMemory, Device, Beyond.
+    pub fn get_ahead<V: Volume>(
+        &self,
+        vol: &mut V,
+        slot: Slot,
+        ahead: &mut Ahead,
+    ) -> Result<Bytes, StoreFault>
+        requires serves { IsTrue (V.told vol.old) → self.now.stopped ≡ false →
+            Serves self.now (contents Bundle (V.history vol.old)) }
+        requires ahead { IsTrue (V.told vol.old) → IsAheadOf (contents Bundle (V.history vol.old))
+            ahead.old }
+        ensures ahead { IsTrue (V.told vol.old) → IsAheadOf (contents Bundle (V.history vol.old))
+            ahead.new }
+        ensures ok { IsTrue (V.told vol.old) → IfOk result (λ tile. GetGives (contents Bundle
+            (V.history vol.old)) slot tile) }
+        ensures tile { IsTrue (V.told vol.old) →
+            IfOk result (λ tile. tiles (contents Bundle (V.history vol.old)) slot ≡ Some tile) }
+        ensures none { IsTrue (V.told vol.old) → IsErrOf result StoreFault.NoTile →
+            tiles (contents Bundle (V.history vol.old)) slot ≡ None }
+        ensures fits { IfOk result (λ tile. (0 < length tile) × (length tile < 16777216)) }
+        ensures stopped { IsErrOf result StoreFault.Stopped ↔ (self.now.stopped ≡ true) }
+        ensures refused { IsTrue (V.told vol.old) →
+            IfErr result (λ f. GetRefuses (contents Bundle (V.history vol.old)) slot f) }
+        ensures answers { IfErr result (λ f. GetFails f) }
+        ensures during { IsTrue (V.told vol.old) → During (λ d. d ≡ current (V.history vol.old))
+            (V.history vol.old) (V.history vol.new) }
+        ensures calls { (V.history vol.new).moment ≤ (V.history vol.old).moment + 2 }
+        ensures unread { IsErrOf result StoreFault.NoTile → vol.new ≡ vol.old }
+        ensures idle { self.now.stopped ≡ true → vol.new ≡ vol.old }
+        ensures told { Told V.told V.faults (CountsDevice result) vol.old vol.new }
+    {
+        if self.stopped {
+            return Err(StoreFault::Stopped);
         }
-        Ok(Bytes::from_vec(tile))
+        let entry = self.front.entry(slot);
+        if entry.size == 0 {
+            return Err(StoreFault::NoTile);
+        }
+        ahead.load(vol, &self.front, slot)?;
+        if ahead.has(entry) {
+            return Ok(ahead.cut(self.alloc, entry)?);
+        }
+        read_tile(self.alloc, vol, entry)
     }
 
     /// Puts the tiles, in their order.

@@ -36,16 +36,22 @@ pub(crate) fn number_tiles(
     Ok(table)
 }
 
-/// Bytes for the record of one tile, whichever it is.
+/// How many bytes of records are gathered before they are written, where no record is longer.
+const GATHERED: usize = 1048576;
+
+/// Bytes for the records of the tiles, but no more than are gathered; enough for each record alone.
 pub(crate) fn record_buffer(alloc: Global, tiles: &[TileRec]) -> Result<Vec<u8>, AllocError>
     requires { EachFits tiles.now }
     ensures { IfOk result (λ b. HasRoom tiles.now (length b.items)) }
 {
     let mut most = 0;
+    let mut gathered = 0;
     for i in 0..tiles.len() {
-        most = most.max(tiles[i].bytes.len());
+        let len = tiles[i].bytes.len();
+        most = most.max(len);
+        gathered = (gathered + len + 4).min(GATHERED);
     }
-    vec![in alloc; 0u8; most + 4]
+    vec![in alloc; 0u8; gathered.max(most + 4)]
 }
 
 /// How many bytes the slot's tile has; 0 for none.

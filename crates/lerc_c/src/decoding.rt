@@ -8,7 +8,7 @@ ghost use Rattle.lerc_grammar.specs.Verdict.{IsDone};
 ghost use Rattle.lerc_c.specs.Arrays.{AreDecodedInto, HaveSizes, IsFull, NeedsNoMask, values_size};
 ghost use Rattle.lerc_c.specs.inside.Stops.{IsRasterStop, IsArrayStop};
 
-use lerc_decode::{DecodeFault, Decoder};
+use lerc_decode::{DecodeFault, decode};
 use lerc_header::BlobFault;
 use raster_values::Raster;
 use std::alloc::Global;
@@ -26,9 +26,10 @@ fn raster_of(alloc: Global, blob: &[u8]) -> Result<Raster, DecodeFault>
     ensures ok { IfOk result (λ r. (size : ℕ) × IsDone blob.now r size) }
     ensures stop { IfErr result (λ stop. IsRasterStop blob.now stop) }
 {
-    let mut decoder = Decoder::new(alloc);
-    decoder.feed(blob);
-    decoder.finish()
+    match decode(alloc, blob) {
+        Ok(decoded) => Ok(decoded.raster),
+        Err(stop) => Err(stop),
+    }
 }
 
 /// Whether arrays of these lengths hold the raster.

@@ -1,4 +1,4 @@
--- What decoding into a caller's arrays answers.
+-- What decoding bytes that lie whole in memory answers, and decoding them into a caller's arrays.
 use Rattle.std.specs.Prelude.{◌≡◌, ℕ, ◌*◌, ◌⊎◌, List, length}
 use Rattle.raster_cells.specs.PixelType.{bytes_of}
 use Rattle.raster_values.specs.Raster.{Pixels}
@@ -11,6 +11,9 @@ use Rattle.lerc_header.specs.declared.fault.BlobReason.TheVariants.{Truncated}
 use Rattle.lerc_header.specs.Head.{HeadAt}
 use Rattle.lerc_grammar.specs.Mask.{mask_size}
 use Rattle.lerc_grammar.specs.Verdict.{FirstFault, IsDone, IsMore}
+use Rattle.lerc_decode.specs.Decoding.{HasHeader}
+use Rattle.lerc_decode.specs.declared.streams.decoder.DecodeFault.{DecodeFault}
+use Rattle.lerc_decode.specs.declared.streams.decoder.DecodeFault.TheVariants.{Blob as BlobOf, OutOfMemory}
 use Rattle.lerc_decode.specs.declared.over.OverFault.{OverFault}
 use Rattle.lerc_decode.specs.declared.over.OverFault.TheVariants.{Blob, Sizes}
 
@@ -39,6 +42,11 @@ pub record AskOtherRoom (bytes : List ℕ) (values mask : ℕ) : Type 0 where
 abbrev pub IsFaultOf : List ℕ → BlobFault → Type 0
 IsFaultOf bytes f = FirstFault bytes f.place f.reason
     ⊎ (IsMore bytes × (f ≡ record { reason = Truncated; place = length bytes }))
+
+-- why there is no raster: memory is wanted only behind a lawful header
+abbrev pub IsDecodeStop : List ℕ → DecodeFault → Type 0
+IsDecodeStop bytes (BlobOf f) = IsFaultOf bytes f
+IsDecodeStop bytes OutOfMemory = HasHeader bytes
 
 -- why there is nothing in the arrays
 abbrev pub IsOverStop : List ℕ → ℕ → ℕ → OverFault → Type 0

@@ -7,3 +7,6 @@ pub(crate) mod from_source;
 pub(crate) mod front_blobs;
 pub(crate) mod kept;
 pub(crate) mod turns;
+
+/// How many bytes are asked of a source at once, at most.
+const PIECE: usize = 65536;

@@ -28,7 +28,7 @@ use Rattle.micro_block.specs.declared.context.BlockFault.{BlockFault}
 use Rattle.micro_block.specs.declared.context.BlockReason.{BlockReason}
 use Rattle.micro_block.specs.declared.context.SteppedBlock.{SteppedBlock}
 use Rattle.micro_block.specs.declared.context.BlockReason.TheVariants as reasons
-use Rattle.micro_block.specs.Block.{IsBlock, IsOffset, offset_type, offset_types}
+use Rattle.micro_block.specs.Block.{IsBlock, IsOffset, offset_type}
 use Rattle.micro_block.specs.Block as forms
 use Rattle.micro_block.specs.Faults.{block_faults, code_faults, form_faults, offset_faults, tag_faults, told_of_list}
 use Rattle.raster_cells.specs.Step.{IsTwiceError}

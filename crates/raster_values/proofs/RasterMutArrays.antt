@@ -21,7 +21,6 @@ use Rattle.raster_cells.proofs.MaskCounts.{all_set}
 use Rattle.raster_cells.proofs.MaskBits.{length-marks_in}
 use Rattle.byteorder.specs.Endian.{little_number}
 use Rattle.raster_cells.proofs.Spelled.{value_in-at}
-use Rattle.raster_values.specs.declared.rasters.raster.Raster.TheInside.{Inside}
 use Rattle.raster_values.specs.RasterMut.{inside_of, lent_pixels}
 use Rattle.raster_values.specs.inside.Parts.{AreParts, parts_of}
 use Rattle.raster_values.specs.View.{seen}

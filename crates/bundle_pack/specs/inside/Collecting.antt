@@ -2,11 +2,13 @@
 use Rattle.std.specs.Prelude.{◌≡◌, ◌⊎◌, ℕ, ◌<◌, ◌≤◌, ◌++◌, List, [], ◌∷◌, length, slice_get, Option, Some, None, Result, Ok, Err, Bool, IsTrue, Vec}
 use Rattle.std.specs.declared.alloc.Global.{Global}
 use Rattle.outside_io.specs.streams.Faults.{IsCause}
-use Rattle.outside_io.specs.volume.History.{During, History, current}
+use Rattle.outside_io.specs.declared.volume.VolFile.TheVariants.{Bundle}
+use Rattle.outside_io.specs.volume.History.{During, History, contents, current}
 use Rattle.bundle_index.specs.Entry.{entry_at}
 use Rattle.bundle_index.specs.Sizes.{slot_count}
 use Rattle.bundle_store.specs.declared.fault.StoreFault.TheVariants as store
 use Rattle.bundle_store.specs.declared.tile_rec.TileRec.{TileRec}
+use Rattle.bundle_store.specs.Ahead.{AheadBytes, IsAheadOf}
 use Rattle.bundle_store.specs.Build.{map_after}
 use Rattle.bundle_store.specs.Session.{GetGives, IsBeyond, Serves, SessionState}
 use Rattle.bundle_store.specs.Tiles.{TileMap, no_tiles}
@@ -23,6 +25,14 @@ pub record AreServed (sessions : List SessionState) (bundles : List (List ℕ)) 
   pub many : length bundles ≡ length sessions
   pub each : (i : ℕ) (s : SessionState) (b : List ℕ) → slice_get sessions i ≡ Some s
       → slice_get bundles i ≡ Some b → Serves s b
+
+-- what was read at once of each source is of its bundle
+pub record AreAhead {V : Type 0} (told : V → Bool) (history : V → History) (vs : List V)
+    (aheads : List AheadBytes) : Type 0 where
+  pub many : length aheads ≡ length vs
+  pub each : (i : ℕ) (v : V) (a : AheadBytes) → slice_get vs i ≡ Some v
+      → slice_get aheads i ≡ Some a → IsTrue (told v)
+      → IsAheadOf (contents Bundle (history v)) a
 
 -- The entry that counts in the slot, and its size; or none there has one.
 abbrev pub IsChoice : List (List ℕ) → ℕ → Option Choice → Type 0

@@ -39,6 +39,12 @@ pub record Extends (old now : Disk) (more : List ℕ) : Type 0 where
   pub journal : now.journal ≡ old.journal
   pub bundle : now.bundle.now ≡ old.bundle.now ++ more
 
+-- The journal is as it was, and what a read of the bundle gives and the bytes that wait behind it
+-- are those of before and these more.
+pub record Gathers (old now : Disk) (waited waits more : List ℕ) : Type 0 where
+  pub journal : now.journal ≡ old.journal
+  pub bundle : now.bundle.now ++ waits ≡ (old.bundle.now ++ waited) ++ more
+
 -- nothing is pending, and the journal is not open
 pub record IsIdle (d : Disk) : Type 0 where
   pub quiet : IsQuiet d

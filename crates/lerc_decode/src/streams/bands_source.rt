@@ -10,6 +10,7 @@ ghost use Rattle.lerc_decode.specs.inside.BandsAnswers.{from_stop};
 ghost use Rattle.lerc_decode.specs.inside.Kept.{IsKeeping};
 ghost use Rattle.lerc_decode.specs.BandsSource.{AreBlobsRead, CountsBands, IsBandsRead, LeavesRest};
 
+use crate::streams::PIECE;
 use crate::streams::bands::{BandsDecoder, BandsStop};
 use crate::streams::kept::KeptBlobs;
 use lerc_grammar::BandsFault;
@@ -62,9 +63,9 @@ fn step_all<S: Source>(src: &mut S, decoder: &mut BandsDecoder) -> Result<(), Fa
     ensures keeps { IsKeeping decoder.old.front.kept → IsKeeping decoder.new.front.kept }
     ensures taken { TakesUpTo 2147483649 (S.left src.old) (S.left src.new) }
 {
-    let mut buf = [0u8; 4096];
+    let mut buf = [0u8; PIECE];
     loop {
-        let wants = decoder.wants().min(4096);
+        let wants = decoder.wants().min(PIECE);
         let got = step_once(src, decoder, &mut buf[..wants])?;
         if got == 0 {
             return Ok(());

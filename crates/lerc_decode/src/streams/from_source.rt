@@ -10,6 +10,7 @@ ghost use Rattle.lerc_decode.specs.Feeding.{Begins, Follows, Joins};
 ghost use Rattle.lerc_decode.specs.FromSource.{CountsSource, IsDecoded, IsSized};
 ghost use Rattle.lerc_decode.specs.inside.Feeding.{from_finished, work_left};
 
+use crate::streams::PIECE;
 use crate::streams::decoder::{DecodeFault, Decoder};
 use lerc_header::BlobFault;
 use outside_io::{Failed, Source};
@@ -75,9 +76,9 @@ pub fn feed_from<S: Source>(src: &mut S, decoder: &mut Decoder) -> Result<(), Fa
 {
     // For the proofs: what holds of each decoder.
     let _state = decoder.state();
-    let mut buf = [0u8; 4096];
+    let mut buf = [0u8; PIECE];
     loop {
-        let wants = decoder.wants().min(4096);
+        let wants = decoder.wants().min(PIECE);
         let got = feed_once(src, decoder, &mut buf[..wants])?;
         if got == 0 {
             return Ok(());

@@ -1,5 +1,5 @@
 -- Whether a source has a byte more.
-use Rattle.std.proofs.Common.{◌≡◌, ℕ, Bool, true, false, List, [], length, drop, Option, Some, None, Result, Ok, Err, refl, sym, ap, subst, ◌∙◌, arith}
+use Rattle.std.proofs.Common.{◌≡◌, ℕ, true, false, List, [], drop, Option, Some, None, Ok, Err, refl, sym, ap, subst, ◌∙◌, arith}
 use Rattle.outside_io.specs.declared.streams.failed.Failed.{Failed}
 use Rattle.outside_io.specs.streams.Source.{IsAtEnd, TakesFront, TakesUpTo}
 use Rattle.outside_io.specs.streams.Asks.{AsksOne}

@@ -174,10 +174,10 @@ fn scatter_rows_as<M: MarkSource, V: CellStore, G: ValueSource>(
     }
 }
 
-/// Does what `scatter_rows` does, for a type that is known before, and for rows of eight pixels as
-/// such.
-#[inline(always)]
-fn scatter_window_as<M: MarkSource, V: CellStore, G: ValueSource>(
+/// Does what `scatter_rows` does, row by row, where each row has eight pixels: the loop for each type
+/// is made for that width.
+#[inline(never)]
+fn scatter_eights<M: MarkSource, V: CellStore, G: ValueSource>(
     channel: &Channel<M>,
     window: Window,
     given: &G,
@@ -189,20 +189,21 @@ fn scatter_window_as<M: MarkSource, V: CellStore, G: ValueSource>(
     requires in_range { All (InRange channel.now.kind) (G.listed given.now) }
     requires count { length (G.listed given.now)
         ≡ length (window_places window (M.marks channel.now.marks.now)) }
+    requires eight { window.wide ≡ 8 }
     ensures scattered { ScattersRows channel.now.depth channel.now.d
         (M.marks channel.now.marks.now) window (G.listed given.now)
         (V.cells values.old) (V.cells values.new) }
     ensures kept { V.kept values.new ≡ V.kept values.old }
 {
-    if window.wide == 8 {
-        scatter_rows_as(channel, window.of_width(8), given, values)
-    } else {
-        scatter_rows_as(channel, window, given, values)
-    }
+    let (marks, depth, d) = (channel.marks, channel.depth, channel.d);
+    by_kind!(channel.kind, kind => {
+        scatter_rows_as(&Channel { marks, kind, depth, d }, window.of_width(8), given, values)
+    })
 }
 
-/// Does what `scatter_rows` does, row by row.
-fn scatter_each_row<M: MarkSource, V: CellStore, G: ValueSource>(
+/// Does what `scatter_rows` does, row by row, for rows of any width.
+#[inline(never)]
+fn scatter_wide<M: MarkSource, V: CellStore, G: ValueSource>(
     channel: &Channel<M>,
     window: Window,
     given: &G,
@@ -221,8 +222,34 @@ fn scatter_each_row<M: MarkSource, V: CellStore, G: ValueSource>(
 {
     let (marks, depth, d) = (channel.marks, channel.depth, channel.d);
     by_kind!(channel.kind, kind => {
-        scatter_window_as(&Channel { marks, kind, depth, d }, window, given, values)
+        scatter_rows_as(&Channel { marks, kind, depth, d }, window, given, values)
     })
+}
+
+/// Does what `scatter_rows` does, row by row. The width is looked at before the type is, so that each
+/// of both loops is made for each type.
+fn scatter_each_row<M: MarkSource, V: CellStore, G: ValueSource>(
+    channel: &Channel<M>,
+    window: Window,
+    given: &G,
+    values: &mut V,
+)
+    requires values { AreOf channel.now.kind channel.now.depth
+        (length (M.marks channel.now.marks.now)) (V.cells values.old) }
+    requires within { IsWithin window (length (M.marks channel.now.marks.now)) }
+    requires in_range { All (InRange channel.now.kind) (G.listed given.now) }
+    requires count { length (G.listed given.now)
+        ≡ length (window_places window (M.marks channel.now.marks.now)) }
+    ensures scattered { ScattersRows channel.now.depth channel.now.d
+        (M.marks channel.now.marks.now) window (G.listed given.now)
+        (V.cells values.old) (V.cells values.new) }
+    ensures kept { V.kept values.new ≡ V.kept values.old }
+{
+    if window.wide == 8 {
+        scatter_eights(channel, window, given, values)
+    } else {
+        scatter_wide(channel, window, given, values)
+    }
 }
 
 /// Gives a window's marked pixels the values that are given. Whole rows lie one behind another:

@@ -3,6 +3,7 @@ use Rattle.std.proofs.lemmas.Option.{slice_get-get_or}
 use Rattle.bundle_pack.specs.Files.{all_bundles}
 use Rattle.bundle_pack.specs.Sources.{DeviceAt}
 use Rattle.bundle_pack.specs.inside.Collecting.{IsChoice, TakesTile, TileSays}
+use Rattle.bundle_pack.proofs.Ahead.{ahead_still, ahead_turn}
 use Rattle.bundle_pack.proofs.Getting.{chosen_bundle, get_of, tile_said}
 use Rattle.bundle_pack.proofs.Reading.{served, still_turn}
 use Rattle.bundle_pack.proofs.Steps.{err_as, get_fails, still_map}
@@ -34,6 +35,44 @@ get_tile-requires-clause-serves g c =
     let first : slice_get c.args.sessions.now at ≡ Some s = slice_get-get_or c.args.sessions.now at s less ∙ ap Some (sym c.index-sessions-at.is) in
     let there = slice_get-get_or c.args.from.now at c.index-from-at.result (omega (arith, less, c.requires.serving.many)) in
     (c.requires.serving.each at s _ first there).1
+
+pub get_tile-requires-clause-ahead : goal.get_tile-requires-clause-ahead
+get_tile-requires-clause-ahead g c =
+    let at = c.in-Some-choice_at.choice.at in
+    let less : at < length c.args.from.now = omega (arith, c.in-Some-choice_at.ensures.within, c.requires.serving.many) in
+    let there = slice_get-get_or c.args.from.now at c.index-from-at.result less in
+    let beside = slice_get-get_or c.args.aheads.now at c.index-aheads-at.result (omega (arith, less, c.requires.aheads.many)) in
+    c.requires.aheads.each at _ _ there beside
+
+pub returns-after-push-clause-aheads : goal.returns-after-push-clause-aheads
+returns-after-push-clause-aheads g c =
+    let vol = g.V.Volume in
+    let at = c.in-Some-choice_at.choice.at in
+    let less : at < length c.args.from.now = omega (arith, c.in-Some-choice_at.ensures.within, c.requires.serving.many) in
+    let there = slice_get-get_or c.args.from.now at c.index-from-at.result less in
+    let beside = slice_get-get_or c.args.aheads.now at c.index-aheads-at.result (omega (arith, less, c.requires.aheads.many)) in
+    ahead_turn vol.told vol.history c.args.from.now c.args.aheads.now at _ c.get_tile.new.vol _ c.get_tile.new.ahead there beside c.requires.aheads
+    (ahead_still vol.told vol.history vol.faults _ _ c.get_tile.new.vol c.get_tile.new.ahead c.get_tile.ensures.still c.get_tile.ensures.ahead)
+
+pub returns-in-Ok-None-clause-aheads : goal.returns-in-Ok-None-clause-aheads
+returns-in-Ok-None-clause-aheads g c =
+    let vol = g.V.Volume in
+    let at = c.in-Some-choice_at.choice.at in
+    let less : at < length c.args.from.now = omega (arith, c.in-Some-choice_at.ensures.within, c.requires.serving.many) in
+    let there = slice_get-get_or c.args.from.now at c.index-from-at.result less in
+    let beside = slice_get-get_or c.args.aheads.now at c.index-aheads-at.result (omega (arith, less, c.requires.aheads.many)) in
+    ahead_turn vol.told vol.history c.args.from.now c.args.aheads.now at _ c.get_tile.new.vol _ c.get_tile.new.ahead there beside c.requires.aheads
+    (ahead_still vol.told vol.history vol.faults _ _ c.get_tile.new.vol c.get_tile.new.ahead c.get_tile.ensures.still c.get_tile.ensures.ahead)
+
+pub returns-in-Err-clause-aheads : goal.returns-in-Err-clause-aheads
+returns-in-Err-clause-aheads g c =
+    let vol = g.V.Volume in
+    let at = c.in-Some-choice_at.choice.at in
+    let less : at < length c.args.from.now = omega (arith, c.in-Some-choice_at.ensures.within, c.requires.serving.many) in
+    let there = slice_get-get_or c.args.from.now at c.index-from-at.result less in
+    let beside = slice_get-get_or c.args.aheads.now at c.index-aheads-at.result (omega (arith, less, c.requires.aheads.many)) in
+    ahead_turn vol.told vol.history c.args.from.now c.args.aheads.now at _ c.get_tile.new.vol _ c.get_tile.new.ahead there beside c.requires.aheads
+    (ahead_still vol.told vol.history vol.faults _ _ c.get_tile.new.vol c.get_tile.new.ahead c.get_tile.ensures.still c.get_tile.ensures.ahead)
 
 pub returns-after-push-clause-still : goal.returns-after-push-clause-still
 returns-after-push-clause-still g c =

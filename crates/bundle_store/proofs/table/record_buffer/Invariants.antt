@@ -6,4 +6,5 @@ abbrev pub invariant-loop-i : goal.invariant-loop-i
 invariant-loop-i l = record {
   room : (k : ℕ) → k < l.i → length (bytes_at l.tiles k) ≤ l.most;
   small : l.most < 16777216;
+  gathered : l.gathered ≤ 1048576;
 }

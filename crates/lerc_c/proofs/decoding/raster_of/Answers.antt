@@ -1,9 +1,8 @@
-use Rattle.std.proofs.Common.{◌∙◌}
 use Rattle.lerc_c.proofs.Telling.{told}
 use Rattle.lerc_c.proofs.decoding.raster_of.Goals as goal
 
-pub returns : goal.returns
-returns c =
-    let t = told c.new-decoder.result c.feed.new.self c.args.blob.now c.feed.result.used c.finish.result c.new-decoder.ensures.taken c.new-decoder.ensures.before c.feed.ensures.taken
-    (λ more. c.feed.ensures.whole (c.feed.ensures.state ∙ more)) c.feed.ensures.verdict c.finish.ensures in
-    record { ok = t.0; stop = t.1 }
+pub returns-in-Ok-clause-ok : goal.returns-in-Ok-clause-ok
+returns-in-Ok-clause-ok c = (c.in-Ok.decoded.size, c.in-Ok.ensures.ok)
+
+pub returns-in-Err-clause-stop : goal.returns-in-Err-clause-stop
+returns-in-Err-clause-stop c = told c.args.blob.now c.in-Err.stop c.in-Err.ensures.stop

@@ -1,13 +1,12 @@
-use Rattle.std.proofs.Common.{◌≡◌, ◌≢◌, false, ℕ, ◌≤◌, List, [], ◌++◌, length, drop, take, sym, subst, ap, ◌∙◌, arith}
-use Rattle.std.proofs.lemmas.List.{append-nil, drop_all, length-drop, length-take-le}
-use Rattle.std.proofs.Math.Seq.{take-append_seam}
+use Rattle.std.proofs.Common.{◌≡◌, false, sym, subst, ap, ◌∙◌, arith}
 use Rattle.outside_io.specs.declared.volume.VolFile.TheVariants.{Bundle}
-use Rattle.outside_io.specs.volume.History.{ReadsAt, contents}
+use Rattle.outside_io.specs.volume.History.{contents}
 use Rattle.bundle_index.specs.Entry.{entry_at}
 use Rattle.bundle_index.specs.declared.entry.Entry.{Entry}
 use Rattle.bundle_store.specs.Kept.{FrontBytes, Keeps}
-use Rattle.bundle_store.specs.Session.{GetGives, SessionState}
-use Rattle.bundle_store.proofs.Region.{gives_tile, tile_none, tiles_at}
+use Rattle.bundle_store.specs.Session.{SessionState}
+use Rattle.bundle_store.proofs.Region.{tile_none, tiles_at}
+use Rattle.bundle_store.proofs.TileReads.{get_fails, reads_some, reads_tile, runs, some_tile}
 use Rattle.bundle_store.proofs.session.Session.get.Goals as goal
 
 pub returns-then-entry-eq0-clause-none : goal.returns-then-entry-eq0-clause-none
@@ -19,53 +18,39 @@ returns-then-entry-eq0-clause-none g c = λ told none.
     let size : (entry_at b c.args.slot).size ≡ 0 = ap (λ (e : Entry). e.size) (sym entry) ∙ c.if-entry-eq0.true in
     tiles_at b c.args.slot c.entry-entry.ensures.slot ∙ tile_none b (entry_at b c.args.slot) size
 
--- a read of as many bytes as the entry names
-read_gives : (b : List ℕ) (slot got : ℕ) (e : Entry) (old buf : List ℕ) → e ≡ entry_at b slot
-    → e.size ≢ 0 → ReadsAt b e.offset got old buf → length old ≡ e.size → e.size ≤ got
-    → GetGives b slot buf
-read_gives b slot got e old buf is some read size all =
-    let size_is = ap (λ (x : Entry). x.size) is in
-    let offset_is = ap (λ (x : Entry). x.offset) is in
-    let count : got ≡ e.size = omega (arith, read.count, size, all) in
-    let nothing : drop got old ≡ [] = drop_all got old (omega (arith, count, size)) in
-    let front = take got (drop e.offset b) in
-    record {
-      some = omega (arith, size_is, some);
-      within = omega (arith, size_is, offset_is, read.count, size, all, some);
-      bytes = read.bytes ∙ ap (λ (l : List ℕ). front ++ l) nothing ∙ append-nil front
-          ∙ ap (λ (n : ℕ). take n (drop e.offset b)) count
-          ∙ ap (λ (x : Entry). take x.size (drop x.offset b)) is;
-    }
-
-given_size : (b : List ℕ) (slot : ℕ) (tile : List ℕ) → GetGives b slot tile
-    → length tile ≡ (entry_at b slot).size
-given_size b slot tile gives =
-    let e = entry_at b slot in
-    let left = drop e.offset b in
-    let room : e.size ≤ length left = omega (arith, length-drop e.offset b, gives.within) in
-    ap length gives.bytes ∙ length-take-le e.size left room
-
 pub returns-clause-ok : goal.returns-clause-ok
 returns-clause-ok g c = λ told.
     let b = contents Bundle (g.V.Volume.history c.args.vol.now) in
     let running : c.args.self.now.stopped ≡ false = sym (ap (λ (s : SessionState). s.stopped) c.self.view_is) ∙ c.if-self.false in
     let keeps : Keeps c.self.inside.front b = subst (λ (f : FrontBytes). Keeps f b) (sym (ap (λ (s : SessionState). s.front) c.self.view_is)) (c.requires.serves told running).keeps in
-    let entry : c.entry-entry.result ≡ entry_at b c.args.slot = c.entry-entry.ensures.value b keeps in
-    let e = c.entry-entry.result in
-    let buf = c.read.new.buf in
-    let got = c.in_ok-got.got in
-    let zeros = c.deref_mut.result.now in
-    let read : ReadsAt b e.offset got zeros buf = c.in_ok-got.ensures.answer told in
-    let size : length zeros ≡ e.size = c.deref_mut.ensures.len ∙ c.in_ok-resize.ensures.len in
-    let gives = read_gives b c.args.slot got e zeros buf entry c.if-entry-eq0.false read size c.if-got-size.false in
-    let rest = drop (length buf) c.resize.new.self.items in
-    let size_is = ap (λ (x : Entry). x.size) entry in
-    let long = sym (given_size b c.args.slot buf gives) in
-    let len : c.resize.new.self.len ≡ length buf = c.in_ok-resize.ensures.len ∙ size_is ∙ long in
-    let whole : c.from_vec.result ≡ buf = c.from_vec.ensures ∙ ap (λ (n : ℕ). take n (buf ++ rest)) len ∙ take-append_seam buf rest in
-    subst (GetGives b c.args.slot) (sym whole) gives
+    c.read_tile.ensures.ok told c.args.slot (c.entry-entry.ensures.value b keeps)
 
 pub returns-clause-tile : goal.returns-clause-tile
 returns-clause-tile g c = λ told.
     let b = contents Bundle (g.V.Volume.history c.args.vol.now) in
-    gives_tile b c.args.slot c.from_vec.result c.entry-entry.ensures.slot (returns-clause-ok g c told)
+    reads_tile b c.args.slot c.read_tile.result c.entry-entry.ensures.slot (returns-clause-ok g c told)
+
+pub returns-clause-none : goal.returns-clause-none
+returns-clause-none g c = λ told none. absurd (some_tile c.read_tile.result c.read_tile.ensures.answers none)
+
+pub returns-clause-fits : goal.returns-clause-fits
+returns-clause-fits g c =
+    reads_some c.entry-entry.result.size c.read_tile.result (omega (arith, c.if-entry-eq0.false)) c.entry-entry.ensures.fits.size c.read_tile.ensures.size
+
+pub returns-clause-stopped : goal.returns-clause-stopped
+returns-clause-stopped g c =
+    let running : c.args.self.now.stopped ≡ false = sym (ap (λ (s : SessionState). s.stopped) c.self.view_is) ∙ c.if-self.false in
+    runs c.read_tile.result c.read_tile.ensures.answers c.args.self.now.stopped running
+
+pub returns-clause-refused : goal.returns-clause-refused
+returns-clause-refused g c = λ told.
+    let b = contents Bundle (g.V.Volume.history c.args.vol.now) in
+    let running : c.args.self.now.stopped ≡ false = sym (ap (λ (s : SessionState). s.stopped) c.self.view_is) ∙ c.if-self.false in
+    let keeps : Keeps c.self.inside.front b = subst (λ (f : FrontBytes). Keeps f b) (sym (ap (λ (s : SessionState). s.front) c.self.view_is)) (c.requires.serves told running).keeps in
+    c.read_tile.ensures.refused told c.args.slot (c.entry-entry.ensures.value b keeps)
+
+pub returns-clause-answers : goal.returns-clause-answers
+returns-clause-answers g c = get_fails c.read_tile.result c.read_tile.ensures.answers
+
+pub returns-clause-unread : goal.returns-clause-unread
+returns-clause-unread g c = λ none. absurd (some_tile c.read_tile.result c.read_tile.ensures.answers none)

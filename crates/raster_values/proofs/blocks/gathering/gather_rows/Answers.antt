@@ -1,4 +1,4 @@
-use Rattle.std.proofs.Common.{◌*◌, ◌≤◌, ℕ, List, map, subst, ap, sym, arith}
+use Rattle.std.proofs.Common.{ℕ, List, map, subst, ap}
 use Rattle.std.specs.Prelude.{ℤ}
 use Rattle.raster_cells.specs.Distance.{distance_of}
 use Rattle.raster_values.specs.inside.Runs.{Gathers}

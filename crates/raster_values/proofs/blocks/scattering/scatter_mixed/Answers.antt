@@ -1,5 +1,5 @@
-use Rattle.std.proofs.Common.{◌≡◌, ◌<◌, ◌≤◌, ◌+◌, ◌-◌, ◌*◌, ◌/◌, ◌%◌, ◌^◌, suc, false, cond, get_or, set, length, ap, sym, ◌∙◌, subst, refl, arith}
-use Rattle.std.specs.Prelude.{All, pos}
+use Rattle.std.proofs.Common.{◌≡◌, ◌<◌, ◌≤◌, ◌+◌, ◌-◌, ◌*◌, ◌/◌, ◌%◌, ◌^◌, suc, false, cond, get_or, set, length, ap, ◌∙◌, subst, refl, arith}
+use Rattle.std.specs.Prelude.{pos}
 use mir.Syntax.{w64}
 use mir.Val.{to_z, of_z}
 use Rattle.std.proofs.Math.Nat.{mul-le-mul_right}

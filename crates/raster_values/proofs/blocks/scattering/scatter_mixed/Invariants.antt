@@ -1,4 +1,4 @@
-use Rattle.std.proofs.Common.{◌≡◌, length}
+use Rattle.std.proofs.Common.{◌≡◌}
 use Rattle.raster_values.specs.inside.Runs.{ScattersRun}
 use Rattle.raster_cells.specs.CellList.{KeepsForm}
 use Rattle.raster_values.proofs.blocks.scattering.scatter_mixed.Given as goal

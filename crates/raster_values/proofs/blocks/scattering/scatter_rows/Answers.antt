@@ -1,4 +1,4 @@
-use Rattle.std.proofs.Common.{◌≤◌, ◌∙◌, ℕ, List, length, ap, sym, arith}
+use Rattle.std.proofs.Common.{◌∙◌, ℕ, List, length, ap, sym, arith}
 use Rattle.raster_values.proofs.Windows.{few_pixels, one_row_places, one_row_scatters}
 use Rattle.raster_values.proofs.blocks.scattering.scatter_rows.Goals as goal
 

@@ -1,7 +1,5 @@
-use Rattle.std.proofs.Common.{◌≡◌, ◌≤◌, ◌+◌, ◌-◌, ◌*◌, length, sym, subst, ◌∙◌, arith}
-use Rattle.std.specs.Prelude.{All}
+use Rattle.std.proofs.Common.{◌≡◌, ◌≤◌, ◌+◌, ◌-◌, ◌*◌, length, subst, ◌∙◌, arith}
 use Rattle.std.proofs.Math.Nat.{mul-le-mul_right}
-use Rattle.raster_cells.specs.PixelType.{InRange}
 use Rattle.raster_values.specs.inside.Runs.{ScattersRun}
 use Rattle.raster_values.proofs.ScatteredWords.{scatters_none, scatters_marked, scatters_join, marked_room, piece_room}
 use Rattle.raster_values.proofs.Windows.{same_form, forms_join, still_of}

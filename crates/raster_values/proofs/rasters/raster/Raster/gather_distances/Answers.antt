@@ -1,4 +1,4 @@
-use Rattle.std.proofs.Common.{◌≡◌, ◌<◌, ◌≤◌, ◌++◌, ◌*◌, ◌∙◌, Bool, List, ap, subst, sym, min, ◌-◌, drop, map, length, ℕ, arith}
+use Rattle.std.proofs.Common.{◌≡◌, ◌<◌, ◌++◌, ◌*◌, ◌∙◌, Bool, List, ap, subst, sym, min, ◌-◌, drop, map, length, ℕ, arith}
 use Rattle.std.specs.Prelude.{ℤ}
 use Rattle.raster_values.specs.Raster.{Pixels}
 use Rattle.raster_values.specs.Block.{block_count, block_values}

@@ -1,5 +1,4 @@
 use Rattle.raster_values.specs.declared.rasters.raster.Raster.TheInside.{Inside}
-use Rattle.raster_values.specs.View.{IsInside}
 use Rattle.raster_values.proofs.Views.{sound}
 use Rattle.raster_values.proofs.FlatViews.{inside_vectors}
 use Rattle.raster_values.proofs.rasters.raster.Raster.of_parts.Goals as goal

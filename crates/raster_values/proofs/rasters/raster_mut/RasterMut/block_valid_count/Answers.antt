@@ -1,4 +1,4 @@
-use Rattle.std.proofs.Common.{◌≡◌, ℕ, List, Bool, ap, ◌∙◌, subst, sym, length, arith}
+use Rattle.std.proofs.Common.{ℕ, List, Bool, ap, ◌∙◌, subst, sym, length, arith}
 use Rattle.raster_values.specs.RasterMut.{inside_of}
 use Rattle.raster_values.specs.inside.Windows.{IsWithin, window_places}
 use Rattle.raster_values.proofs.BlockViews.{count_is}

@@ -1,4 +1,4 @@
-use Rattle.std.proofs.Common.{◌*◌, List, Bool, ap, sym, subst, length, arith, rules}
+use Rattle.std.proofs.Common.{List, Bool, ap, subst, length, arith, rules}
 use Rattle.raster_values.specs.Ordered.{PutsMarked}
 use Rattle.raster_values.proofs.Views.{KeepsValues}
 use Rattle.raster_values.proofs.FlatViews.{puts_keep, puts_from}

@@ -1,4 +1,4 @@
-use Rattle.std.proofs.Common.{◌≡◌, ◌-◌, ◌*◌, ℕ, List, Bool, ap, ◌∙◌, sym, subst, min, length, rules}
+use Rattle.std.proofs.Common.{◌-◌, ℕ, List, Bool, ap, ◌∙◌, sym, subst, min, length, rules}
 use Rattle.std.specs.Prelude.{ℤ}
 use Rattle.raster_cells.specs.CellList.{cells_in, values_in}
 use Rattle.raster_values.specs.declared.blocks.window.Window.{Window}

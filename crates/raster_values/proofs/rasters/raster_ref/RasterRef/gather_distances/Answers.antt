@@ -1,11 +1,11 @@
-use Rattle.std.proofs.Common.{◌≡◌, ◌<◌, ◌≤◌, ◌++◌, ◌*◌, ◌∙◌, Bool, List, ap, subst, sym, min, ◌-◌, drop, map, length, ℕ, arith}
+use Rattle.std.proofs.Common.{◌≡◌, ◌<◌, ◌++◌, ap, subst, sym, min, ◌-◌, drop, map, ℕ, arith}
 use Rattle.std.specs.Prelude.{ℤ}
 use Rattle.raster_values.specs.Raster.{Pixels}
 use Rattle.raster_values.specs.Block.{block_count, block_values}
 use Rattle.raster_cells.specs.Distance.{distance_of}
 use Rattle.raster_values.specs.inside.RasterRefView.{vectors_of}
 use Rattle.raster_values.specs.inside.Runs.{rows_values, Gathers}
-use Rattle.raster_values.specs.inside.Windows.{IsWithin, window_values}
+use Rattle.raster_values.specs.inside.Windows.{IsWithin}
 use Rattle.raster_values.proofs.BlockViews.{gathered_is}
 use Rattle.raster_values.proofs.Windows.{few_places, block_area, block_values_are, block_within}
 use Rattle.raster_values.proofs.rasters.raster_ref.RasterRef.gather_distances.Goals as goal
