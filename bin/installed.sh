@@ -14,12 +14,16 @@ target=${DESTDIR-}$prefix
 # The shared library's own file, to which its other two names lead.
 library_file() { echo "libfutskheri.so.$(version)"; }
 
+# The shared library for processors that have x86-64-v3, by its path below the prefix: there the loader looks first.
+v3_library=lib/glibc-hwcaps/x86-64-v3/$(soname)
+
 # Each file, by its path below the prefix: what is called as a program, manual pages, libraries, the header, what pkg-config
 # and CMake ask for, the programs themselves with the script that stands in front of each, and completions for bash.
 installed() {
     programs | while read -r name crate; do echo "bin/$name"; done
     programs | while read -r name crate; do echo "share/man/man1/$name.1"; done
     printf 'lib/%s\n' libfutskheri.a "$(library_file)" "$(soname)" libfutskheri.so
+    [ ! -e "$target/$v3_library" ] || echo "$v3_library"
     echo include/futskheri.h
     printf 'lib/%s\n' pkgconfig/futskheri.pc cmake/futskheri/futskheri-config.cmake \
         cmake/futskheri/futskheri-config-version.cmake

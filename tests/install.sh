@@ -128,6 +128,26 @@ if has readelf; then
     holds "its soname is the link's" sh -c 'readelf -d "$1/lib/libfutskheri.so" | grep -q "soname: \[$(readlink "$1/lib/libfutskheri.so")\]"' sh "$prefix"
 fi
 
+# The shared library for x86-64-v3, beside the other: the loader takes it where the processor has that.
+v3=lib/glibc-hwcaps/x86-64-v3/$(readlink "$prefix/lib/libfutskheri.so")
+[ -e "$here/out/glibc-hwcaps" ] ||
+    holds "none for x86-64-v3 is installed before it is built" test ! -e "$prefix/$v3"
+holds "bin/build_c v3 builds it" sh -c '"$1/bin/build_c" v3 | grep -qx "$1/out/glibc-hwcaps/x86-64-v3/libfutskheri.so"' sh "$here"
+holds "and everything is installed once more" "$here/bin/install" "$prefix"
+cp said put
+sed '$d' put >paths
+holds "with it among the files" sh -c 'grep -Fqx "$1/$2" paths && [ -e "$1/$2" ]' sh "$prefix" "$v3"
+holds "which are all that are there" names_files
+if has nm; then
+    nm -D --defined-only "$prefix/$v3" | awk '{ print $3 }' | sort >names
+    holds "it has the names of the other" sh -c 'nm -D --defined-only "$1/lib/libfutskheri.so" | awk "{ print \$3 }" | sort | cmp - names' sh "$prefix"
+fi
+if /lib64/ld-linux-x86-64.so.2 --help 2>/dev/null | grep -q 'x86-64-v3 (supported'; then
+    cc -std=c99 -o by_loader "$here/examples/c/tile.c" -I "$prefix/include" -L "$prefix/lib" -lfutskheri
+    holds "the loader takes it, and the example gives the same" runs ./by_loader "$prefix/lib"
+    holds "from its folder" sh -c 'LD_DEBUG=libs LD_LIBRARY_PATH="$1/lib" ./by_loader 2>&1 >told | grep -Fq "init: $1/$2"' sh "$prefix" "$v3"
+fi
+
 holds "everything is taken away" "$here/bin/uninstall" "$prefix"
 holds "and no file is left" sh -c '[ -z "$(find "$1" ! -type d)" ]' sh "$prefix"
 holds "it goes below DESTDIR" env DESTDIR="$room/root" "$here/bin/install" /usr

@@ -7,3 +7,4 @@ pub mod StuffedLaws
 pub mod HeadLaws
 pub mod HeadParts
 mod Eights
+mod LaneNumbers

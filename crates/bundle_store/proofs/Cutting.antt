@@ -1,9 +1,11 @@
 -- Tiles that are cut from bytes that were read at once.
-use Rattle.std.proofs.Common.{◌≡◌, ℕ, ◌+◌, ◌-◌, ◌<◌, ◌≤◌, List, [], ◌++◌, length, take, drop, min, refl, sym, ap, ◌∙◌, subst, arith}
+use Rattle.std.proofs.Common.{◌≡◌, ℕ, ◌+◌, ◌-◌, ◌<◌, ◌≤◌, List, [], ◌++◌, length, get_or, take, drop, min, sym, ap, ◌∙◌, arith}
 use Rattle.std.proofs.lemmas.List.{length-drop, length-take, places, same_lists}
 use Rattle.outside_io.specs.volume.History.{ReadsAt}
 use Rattle.bundle_index.specs.Entry.{entry_at}
+use Rattle.bundle_index.specs.Numbers.{u32_at}
 use Rattle.bundle_index.specs.declared.entry.Entry.{Entry}
+use Rattle.bundle_index.proofs.Numbers.{same_u32}
 use Rattle.bundle_store.specs.Ahead.{AheadBytes, HasPart, IsAheadOf}
 use Rattle.bundle_store.specs.Session.{GetGives}
 
@@ -49,3 +51,15 @@ ahead_read bundle start got old buf rest read =
 -- and no bytes stand anywhere
 pub ahead_none : (bundle : List ℕ) (a : AheadBytes) → a.bytes ≡ [] → IsAheadOf bundle a
 ahead_none bundle a none = none ∙ sym (ap (λ n. take n (drop a.start bundle)) (ap length none))
+
+cut_at : (n at i d : ℕ) (c : List ℕ) → i < n → get_or (take n (drop at c)) i d ≡ get_or c (at + i) d
+cut_at n at i d c lt = grind (arith, places)
+
+-- a number that stands among them
+pub cut_word : (bundle room : List ℕ) (start count at : ℕ) → count ≤ length room → IsAheadOf bundle (record { start = start; bytes = take count room }) → HasPart (record { start = start; bytes = take count room }) (record { offset = at; size = 4 })
+    → u32_at (take 4 (drop (at - start) room)) 0 ≡ u32_at bundle at
+cut_word bundle room start count at most is part =
+    let a : AheadBytes = record { start = start; bytes = take count room } in
+    let e : Entry = record { offset = at; size = 4 } in
+    ap (λ (l : List ℕ). u32_at l 0) (cut_room start count room e most part ∙ cut_bytes bundle a e is part)
+    ∙ same_u32 (take 4 (drop at bundle)) bundle 0 at (λ i lt. cut_at 4 at (0 + i) 0 bundle (omega arith) ∙ ap (λ (m : ℕ). get_or bundle m 0) (let n : at + (0 + i) ≡ at + i = omega arith in n))

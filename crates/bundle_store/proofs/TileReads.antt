@@ -1,5 +1,5 @@
 -- What a get answers by the read of its tile.
-use Rattle.std.proofs.Common.{◌≡◌, ℕ, ◌<◌, ◌↔◌, Bool, true, false, List, length, Result, Ok, Err, sym, ◌∙◌, arith}
+use Rattle.std.proofs.Common.{◌≡◌, ℕ, ◌<◌, ◌↔◌, Bool, true, false, List, length, Result, sym, ◌∙◌, arith}
 use Rattle.std.specs.Prelude.{IfErr, IfOk, Some, IsErrOf}
 use Rattle.std.proofs.lemmas.Result.{IfErr-at_err, IfErr-weaker, IfOk-weaker}
 use Rattle.bundle_store.specs.declared.fault.StoreFault.{StoreFault}

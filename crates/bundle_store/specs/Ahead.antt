@@ -1,5 +1,5 @@
 -- Bytes of a bundle that were read at once, so that several tiles are cut from them.
-use Rattle.std.specs.Prelude.{◌≡◌, ℕ, ◌+◌, ◌<◌, ◌≤◌, List, length, take, drop}
+use Rattle.std.specs.Prelude.{◌≡◌, ℕ, ◌+◌, ◌≤◌, List, length, take, drop}
 use Rattle.bundle_index.specs.declared.entry.Entry.{Entry}
 
 -- bytes from a place on

@@ -10,7 +10,7 @@ ghost use Rattle.bundle_store.specs.Ahead.{HasPart, IsAheadOf};
 ghost use Rattle.bundle_store.specs.Told.{OnlyReads};
 
 use crate::front::Front;
-use crate::reading::{Span, read_span};
+use crate::reading::{MOST_GAP, Span, read_span};
 use crate::table::SLOTS;
 use bundle_index::{Entry, SLOT_COUNT, Slot};
 use outside_io::{Bytes, Failed, Volume};
@@ -19,9 +19,6 @@ use std::marker::Model;
 
 /// How many bytes are read at once at most.
 const MOST_AHEAD: usize = 1048576;
-
-/// How many bytes between two tiles are read with them at most.
-const MOST_GAP: u64 = 4096;
 
 /// Bytes of a bundle that were read at once, at most 1 MiB, and the slots that are passed over:
 /// for callers that read many tiles of one bundle in the order of their slots.

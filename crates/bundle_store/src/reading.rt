@@ -16,6 +16,9 @@ use bundle_index::Entry;
 use outside_io::{Bytes, Failed, VolFile, Volume};
 use std::alloc::Global;
 
+/// How many bytes between two parts of a bundle are read with them at most.
+pub(crate) const MOST_GAP: u64 = 4096;
+
 /// Bytes of a bundle, from a place up to another.
 #[derive(Clone, Copy)]
 pub(crate) struct Span {

@@ -107,6 +107,10 @@ piece_size valid place n depth marks is_mark =
 pub rank_room : (mark : ℕ → Bool) (n depth room : ℕ) → n * depth ≤ room → rank mark n * depth ≤ room
 rank_room mark n depth room fits = let up : rank mark n * depth ≤ n * depth = mul-le-mul_right depth (rank_le mark n) in omega (arith, up, fits)
 
+-- where each pixel has one symbol and there are as many as pixels, all pixels are valid
+pub marks_full : (mark : ℕ → Bool) (n : ℕ) {depth m : ℕ} → depth ≡ 1 → m ≡ rank mark n * depth → m ≡ n → rank mark n ≡ n
+marks_full mark n {depth} {m} one count same = let single : rank mark n * depth ≡ rank mark n * 1 = ap (λ k. rank mark n * k) one in omega (arith, single, count, same)
+
 -- ---- all pieces
 
 pub placed_none : (kind : PixelType) (depth : ℕ) (valid : ℕ → Bool) (value : ℕ → ℕ → ℤ) (symbols : List ℕ) → ArePlaced kind depth valid value 0 0 symbols

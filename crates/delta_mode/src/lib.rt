@@ -1,5 +1,5 @@
-//! Delta and plain mode: the symbols of rasters of bytes. It stands on `raster_cells`,
-//! `raster_values` and `raster_access`, and takes no memory.
+//! Delta and plain mode: the symbols of rasters of bytes. It stands on `lane_kernels`,
+//! `raster_cells`, `raster_values` and `raster_access`, and takes no memory.
 //!
 //! The contract that the layer above uses: a pixel's symbol is that of its value less its
 //! predictor, one equation per pixel; symbols of all depths have one raster.

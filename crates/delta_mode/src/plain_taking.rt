@@ -60,6 +60,30 @@ fn spread(kind: PixelType, depth: usize, d: usize, marks: &[bool], symbols: &[u8
     }
 }
 
+/// Gives the pixels from number `place` on, which are all valid and have one value each, the values
+/// that the symbols say.
+fn give_bytes<T: Target>(symbols: &[u8], raster: &mut T, place: usize)
+    requires kind { IsByteType (T.pixels raster.old).kind }
+    requires depth { (T.pixels raster.old).depth ≡ 1 }
+    requires within { place + length symbols.now
+        ≤ (T.pixels raster.old).rows * (T.pixels raster.old).cols }
+    requires valid { (i : ℕ) → i < length symbols.now
+        → is_valid (T.pixels raster.old) (place + i) ≡ true }
+    ensures symbols { (i : ℕ) → i < length symbols.now
+        → symbol_of (T.pixels raster.old).kind (value_in (T.pixels raster.new) 0 (place + i))
+        ≡ get_or symbols.now i 0 }
+    ensures rest { (k e : ℕ) → k < (T.pixels raster.old).rows * (T.pixels raster.old).cols
+        → e < (T.pixels raster.old).depth
+        → (place ≤ k → k < place + length symbols.now → ⊥)
+        → value_in (T.pixels raster.new) e k ≡ value_in (T.pixels raster.old) e k }
+    ensures frame { KeepsMask (T.pixels raster.old) (T.pixels raster.new)
+        (T.kept raster.old) (T.kept raster.new) }
+{
+    let kind = raster.kind();
+    let below = bias_of(kind);
+    raster.put_run(place, 0, below, symbols);
+}
+
 /// Gives the valid pixels from number `place` on the values that the symbols of the piece say.
 fn give_plain<T: Target>(
     symbols: &[u8],
@@ -90,6 +114,10 @@ fn give_plain<T: Target>(
 {
     let kind = raster.kind();
     let depth = raster.depth();
+    if depth == 1 && symbols.len() == marks.len() {
+        give_bytes(symbols, raster, place);
+        return;
+    }
     for d in 0..depth {
         spread(kind, depth as usize, d as usize, marks, symbols, values);
         raster.put_from(place, d, values);

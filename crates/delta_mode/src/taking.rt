@@ -17,7 +17,7 @@ use raster_access::Target;
 use raster_values::Run;
 
 /// How many pixels of a row are taken together, at most.
-const PIECE: usize = 128;
+const PIECE: usize = 1024;
 
 /// Gives the pixels of a piece of a row, from where the depth is walked to, which are all valid,
 /// the values that the next symbols say, which `symbols` has room for.
@@ -25,7 +25,6 @@ fn take_run<S: SymbolSource, T: Target>(
     source: &mut S,
     raster: &mut T,
     here: DepthWalk,
-    values: &mut [i64],
     symbols: &mut [u8],
 ) -> Result<Walk, S::Stop>
     requires kind { IsByteType (T.pixels raster.old).kind }
@@ -37,7 +36,6 @@ fn take_run<S: SymbolSource, T: Target>(
         ≤ (T.pixels raster.old).rows * (T.pixels raster.old).cols }
     requires valid { (i : ℕ) → i < length symbols.old
         → is_valid (T.pixels raster.old) (here.place + i) ≡ true }
-    requires values { length values.old ≡ length symbols.old }
     requires at { IsAt (is_valid (T.pixels raster.old)) (value_in (T.pixels raster.old) here.d)
         here.place here.walk.left here.walk.last here.walk.count }
     requires ready { S.sound source.old }
@@ -68,7 +66,7 @@ fn take_run<S: SymbolSource, T: Target>(
 {
     let before = enter(here.walk, here.place, raster.cols() as usize);
     source.next(symbols)?;
-    Ok(give_run(symbols, raster, here.d, here.place, before, values))
+    Ok(give_run(symbols, raster, here.d, here.place, before))
 }
 
 /// Gives the pixels of the next run in a row, from where the depth is walked to, the values that
@@ -78,7 +76,6 @@ fn take_next<S: SymbolSource, T: Target>(
     raster: &mut T,
     here: DepthWalk,
     run: Run,
-    values: &mut [i64],
     symbols: &mut [u8],
 ) -> Result<Walk, S::Stop>
     requires kind { IsByteType (T.pixels raster.old).kind }
@@ -87,7 +84,6 @@ fn take_next<S: SymbolSource, T: Target>(
     requires across { here.place % (T.pixels raster.old).cols + (run.end - here.place)
         ≤ (T.pixels raster.old).cols }
     requires within { run.end ≤ (T.pixels raster.old).rows * (T.pixels raster.old).cols }
-    requires values { run.end ≤ run.start + length values.old }
     requires symbols { run.end ≤ run.start + length symbols.old }
     requires at { IsAt (is_valid (T.pixels raster.old)) (value_in (T.pixels raster.old) here.d)
         here.place here.walk.left here.walk.last here.walk.count }
@@ -121,14 +117,13 @@ fn take_next<S: SymbolSource, T: Target>(
         return Ok(before);
     }
     let count = run.end - run.start;
-    let values = &mut values[..count];
     let symbols = &mut symbols[..count];
     let first = DepthWalk {
         d: here.d,
         place: run.start,
         walk: before,
     };
-    take_run(source, raster, first, values, symbols)
+    take_run(source, raster, first, symbols)
 }
 
 /// Gives the valid pixels of a raster of bytes the values at a depth that the symbols of a source
@@ -158,7 +153,6 @@ pub fn undelta_from<S: SymbolSource, T: Target>(
 {
     let cols = raster.cols() as usize;
     let pixels = raster.rows() as usize * cols;
-    let mut values = [0; PIECE];
     let mut symbols = [0; PIECE];
     let mut walk = start();
     let mut place = 0;
@@ -166,7 +160,7 @@ pub fn undelta_from<S: SymbolSource, T: Target>(
         let most = PIECE.min(cols - place % cols);
         let run = raster.next_run(place, place + most);
         let here = DepthWalk { d, place, walk };
-        walk = take_next(source, raster, here, run, &mut values, &mut symbols)?;
+        walk = take_next(source, raster, here, run, &mut symbols)?;
         place = run.end;
     }
     Ok(())

@@ -212,5 +212,5 @@ fn overviews_are_read_behind_kills(rt: HostRuntime) {
             .expect(&rt, "memory");
         calls = calls.saturating_add(read_at_each(&rt, alloc, &image, &bundles.target));
     }
-    same(&rt, "overviews have calls", calls > 200, true);
+    same(&rt, "overviews have calls", calls > 150, true);
 }

@@ -4,6 +4,7 @@ mod Eight
 mod EightSums
 mod Folds
 mod Ends
+mod LaneSums
 pub mod Mapped
 mod MinMax
 mod Sums

@@ -8,6 +8,8 @@ pub mod Prefixes
 pub mod WrittenHeads
 mod Exits
 mod LaidLemmas
+mod LaneSums
+mod LaneWords
 mod Ranges
 mod ReadParts
 mod Words

@@ -3,6 +3,8 @@
 ghost use Rattle.std.specs.Prelude.{◌≡◌, ◌+◌, ◌*◌, ◌/◌, ◌<◌, ◌≤◌, length, drop, sum, slice_index};
 ghost use Rattle.lerc_header.specs.Checksum.{words, weighted, folded, groups_of, sum_of};
 
+use crate::lanes::sums_of_eights;
+
 // The words of a group: no sum of 32 bits overflows within one.
 const GROUP_WORDS: usize = 359;
 
@@ -23,11 +25,11 @@ fn word_at(bytes: &[u8], i: usize) -> u32
     u32::from(bytes[2 * i]) * 256 + u32::from(bytes[2 * i + 1])
 }
 
-/// Both sums after the words of a group, not yet folded.
-fn add_group(bytes: &[u8], first: u32, second: u32) -> (u32, u32)
-    requires short { length bytes.now ≤ 718 }
-    requires first { first ≤ 131070 }
-    requires second { second ≤ 131070 }
+/// Both sums after at most seven words more.
+fn add_words(bytes: &[u8], first: u32, second: u32) -> (u32, u32)
+    requires short { length bytes.now ≤ 15 }
+    requires first { first ≤ 23200000 }
+    requires second { second ≤ 4118000000 }
     ensures first { result.0 ≡ first + sum (words bytes.now) }
     ensures second { result.1
         ≡ second + length (words bytes.now) * first + weighted (words bytes.now) }
@@ -39,6 +41,21 @@ fn add_group(bytes: &[u8], first: u32, second: u32) -> (u32, u32)
         sum2 += sum1;
     }
     (sum1, sum2)
+}
+
+/// Both sums after the words of a group, not yet folded.
+fn add_group(bytes: &[u8], first: u32, second: u32) -> (u32, u32)
+    requires short { length bytes.now ≤ 718 }
+    requires first { first ≤ 131070 }
+    requires second { second ≤ 131070 }
+    ensures first { result.0 ≡ first + sum (words bytes.now) }
+    ensures second { result.1
+        ≡ second + length (words bytes.now) * first + weighted (words bytes.now) }
+{
+    let (eights, rest) = bytes.split_at(bytes.len() / 16 * 16);
+    let (total, weight) = sums_of_eights(eights);
+    let count = (eights.len() / 2) as u32;
+    add_words(rest, first + total, second + count * first + weight)
 }
 
 /// Both sums after all groups of words, each folded.

@@ -11,6 +11,7 @@ pub const KEY: [u8; 6] = *b"Lerc2 ";
 mod fault;
 mod fletcher;
 mod header;
+mod lanes;
 mod laws;
 mod numbers;
 mod reading;

@@ -5,7 +5,7 @@ ghost use Rattle.std.specs.Prelude.{◌≡◌, All, true};
 ghost use Rattle.lane_kernels.specs.Kernels.{IsSmall, IsStepSize};
 
 use case_rows::{CaseStop, Row, Told};
-use lane_kernels::{minus, plus_capped, plus_capped_unsigned, range};
+use lane_kernels::{minus, plus_capped, plus_capped_unsigned, range, running_sums};
 use std::alloc::Global;
 
 /// Calls what stands behind `lane.`
@@ -14,6 +14,7 @@ pub(crate) fn call(alloc: Global, row: &Row, told: &mut Told) -> Result<(), Case
         b"range" => ranges(alloc, row, told),
         b"minus" => differences(alloc, row, told),
         b"plus" => capped(alloc, row, told),
+        b"sums" => running(alloc, row, told),
         _ => Err(CaseStop::BadRow),
     }
 }
@@ -116,6 +117,27 @@ fn capped(alloc: Global, row: &Row, told: &mut Told) -> Result<(), CaseStop> {
         if !whole.starts_with(&front) || front.len() != count || other != front {
             told.list(&front)?;
             told.list(&other)?;
+        }
+    }
+    told.list(&whole)
+}
+
+/// Each byte's sum with those before it.
+fn summed(alloc: Global, first: u8, bytes: &[u8]) -> Result<Vec<u8>, CaseStop> {
+    let mut out = bytes.to_vec(alloc)?;
+    running_sums(first, &mut out);
+    Ok(out)
+}
+
+/// `sums FIRST BYTES`: the sums, modulo 256, of the first number and each byte up to one. Where
+/// those of a front are others, it is told which.
+fn running(alloc: Global, row: &Row, told: &mut Told) -> Result<(), CaseStop> {
+    let (first, bytes) = (row.number::<u8>(0)?, row.numbers::<u8>(alloc, 1)?);
+    let whole = summed(alloc, first, &bytes)?;
+    for count in 0..bytes.len() {
+        let front = summed(alloc, first, &bytes[..count])?;
+        if !whole.starts_with(&front) || front.len() != count {
+            told.list(&front)?;
         }
     }
     told.list(&whole)

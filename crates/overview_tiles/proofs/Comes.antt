@@ -1,7 +1,8 @@
 -- Amounts that come to totals.
-use Rattle.std.proofs.Common.{◌≡◌, ◌≢◌, ℕ, ℤ, zero, suc, ◌+◌, ◌-◌, ◌*◌, ◌/◌, ◌%◌, ◌<◌, ◌≤◌, true, false, cond, List, length, get_or, refl, sym, ap, ◌∙◌, subst, arith, ⊎_elim}
+use Rattle.std.proofs.Common.{◌≡◌, ◌≢◌, ℕ, ℤ, zero, suc, ◌+◌, ◌-◌, ◌*◌, ◌/◌, ◌%◌, ◌<◌, ◌≤◌, ◌⊎◌, true, false, cond, List, length, get_or, refl, sym, ap, ◌∙◌, subst, arith, ⊎_elim}
 use Rattle.std.specs.Prelude.{pos, ◌+ℤ◌, ◌≤ℤ◌, nat_eq}
 use Rattle.std.proofs.Math.ListN.{set}
+use Rattle.std.proofs.Math.Nat.{mul-le-mul_right}
 use Rattle.std.proofs.lemmas.List.{get_or-set_same, get_or-set_other}
 use Rattle.std.proofs.lemmas.Int.{ints}
 use Rattle.std.proofs.lemmas.Nat.{same_from_place}
@@ -65,16 +66,57 @@ comes_up to a t n (suc m) h =
     let e : comes to a t (n + suc m) ≡ comes to a t (suc (n + m)) = ap (comes to a t) (omega arith) in
     omega (arith, ints, before, next, e, brings_up to a t (n + m) (h (n + m)))
 
-brings_within : (to : ℕ → ℕ) (a : ℕ → ℤ) (t n : ℕ) → IsWithin 4294967296 (a n) → IsWithin 4294967296 (brings to a t n)
-brings_within to a t n h = elim (nat_eq (to n) t) as (λ b. IsWithin 4294967296 (cond b (a n) (pos 0))) [ true ↦ h | false ↦ (omega (arith, ints), omega (arith, ints)) ]
+pub comes_above : (to : ℕ → ℕ) (a : ℕ → ℤ) (t n : ℕ) → ((i : ℕ) → pos 0 ≤ℤ a i) → pos 0 ≤ℤ comes to a t n
+comes_above to a t n h =
+    let none = comes_none to a t in
+    let up = comes_up to a t 0 n h in
+    let e : comes to a t (0 + n) ≡ comes to a t n = ap (comes to a t) (omega arith) in
+    omega (arith, ints, none, up, e)
 
-pub comes_within : (to : ℕ → ℕ) (a : ℕ → ℤ) (t n : ℕ) → ((i : ℕ) → i < n → IsWithin 4294967296 (a i)) → IsWithin (n * 4294967296) (comes to a t n)
-comes_within to a t zero h = let none = comes_none to a t in (omega (arith, ints, none), omega (arith, ints, none))
-comes_within to a t (suc n) h =
-    let before = comes_within to a t n (λ i less. h i (omega arith)) in
+brings_within : (reach : ℕ) (to : ℕ → ℕ) (a : ℕ → ℤ) (t n : ℕ) → IsWithin reach (a n) → IsWithin reach (brings to a t n)
+brings_within reach to a t n h = elim (nat_eq (to n) t) as (λ b. IsWithin reach (cond b (a n) (pos 0))) [ true ↦ h | false ↦ (omega (arith, ints), omega (arith, ints)) ]
+
+pub comes_within : (reach : ℕ) (to : ℕ → ℕ) (a : ℕ → ℤ) (t n : ℕ) → ((i : ℕ) → i < n → IsWithin reach (a i)) → IsWithin (n * reach) (comes to a t n)
+comes_within reach to a t zero h = let none = comes_none to a t in (omega (arith, ints, none), omega (arith, ints, none))
+comes_within reach to a t (suc n) h =
+    let before = comes_within reach to a t n (λ i less. h i (omega arith)) in
     let next = suc_next to a t n in
-    let one = brings_within to a t n (h n (omega arith)) in
-    (omega (arith, ints, before.0, next, one.0), omega (arith, ints, before.1, next, one.1))
+    let one = brings_within reach to a t n (h n (omega arith)) in
+    let e : suc n * reach ≡ n * reach + reach = omega arith in
+    subst (λ m. IsWithin m (comes to a t (suc n))) (sym e) (omega (arith, ints, before.0, next, one.0), omega (arith, ints, before.1, next, one.1))
+
+-- amounts that are 0 where a mark is 0: what comes of them is as small as the count of the marks asks for
+pub comes_marked : (reach : ℕ) (to : ℕ → ℕ) (a b : ℕ → ℤ) (t n c : ℕ) → ((i : ℕ) → IsWithin reach (a i)) → ((i : ℕ) → ((b i ≡ pos 0) × (a i ≡ pos 0)) ⊎ (b i ≡ pos 1)) → comes to b t n ≤ℤ pos c
+    → IsWithin (c * reach) (comes to a t n)
+comes_marked reach to a b t zero c small marks few = let none = comes_none to a t in (omega (arith, ints, none), omega (arith, ints, none))
+comes_marked reach to a b t (suc n) c small marks few =
+    let next_a = suc_next to a t n in
+    let next_b = suc_next to b t n in
+    ⊎_elim
+    (λ (here : to n ≡ t).
+    let one_a = brings_there to a t n here in
+    let one_b = brings_there to b t n here in
+    ⊎_elim
+    (λ (off : (b n ≡ pos 0) × (a n ≡ pos 0)).
+    let before = comes_marked reach to a b t n c small marks (omega (arith, ints, few, next_b, one_b, off.0)) in
+    (omega (arith, ints, before.0, next_a, one_a, off.1), omega (arith, ints, before.1, next_a, one_a, off.1)))
+    (λ (on : b n ≡ pos 1).
+    let up : pos 0 ≤ℤ comes to b t n = comes_above to b t n (λ i. ⊎_elim (λ (off : (b i ≡ pos 0) × (a i ≡ pos 0)). omega (arith, ints, off.0)) (λ (is : b i ≡ pos 1). omega (arith, ints, is)) (marks i)) in
+    let some : 0 < c = omega (arith, ints, few, next_b, one_b, on, up) in
+    let less : comes to b t n ≤ℤ pos (c - 1) = omega (arith, ints, few, next_b, one_b, on, some) in
+    let before = comes_marked reach to a b t n (c - 1) small marks less in
+    let one = small n in
+    let e : c ≡ suc (c - 1) = omega (arith, some) in
+    let f : suc (c - 1) * reach ≡ (c - 1) * reach + reach = omega arith in
+    let all : c * reach ≡ (c - 1) * reach + reach = ap (λ m. m * reach) e ∙ f in
+    subst (λ m. IsWithin m (comes to a t (suc n))) (sym all) (omega (arith, ints, before.0, next_a, one_a, one.0), omega (arith, ints, before.1, next_a, one_a, one.1)))
+    (marks n))
+    (λ (ne : to n ≢ t).
+    let one_a = brings_none to a t n ne in
+    let one_b = brings_none to b t n ne in
+    let before = comes_marked reach to a b t n c small marks (omega (arith, ints, few, next_b, one_b)) in
+    (omega (arith, ints, before.0, next_a, one_a), omega (arith, ints, before.1, next_a, one_a)))
+    (cases_eq (to n) t)
 
 -- ---- one amount more
 
@@ -219,12 +261,13 @@ pair_first base col k even = omega (arith, even)
 pub pair_second : (base col k : ℕ) → col % 2 ≡ 0 → in_row base col (2 * k + 1) ≡ base + col / 2 + k
 pair_second base col k even = omega (arith, even)
 
-pub sums_room : (depth d : ℕ) (to : ℕ → ℕ) (a : ℕ → ℤ) (n k : ℕ) (old new : List ℤ) → to n * depth + d ≡ k → n ≤ 256 → k < length old → ((i : ℕ) → i < n → IsWithin 4294967296 (a i)) → GrowsSums depth d to a n old new
-    → ((t : ℕ) → t * depth + d < length old → IsWithin 1152921504606846976 (get_or old (t * depth + d) (pos 0))) → IsWithin 2305843009213693952 (get_or new k (pos 0))
-sums_room depth d to a n k old new place few inside small grown within =
+pub sums_room : (reach depth d : ℕ) (to : ℕ → ℕ) (a : ℕ → ℤ) (n k : ℕ) (old new : List ℤ) → to n * depth + d ≡ k → n ≤ 256 → k < length old → ((i : ℕ) → i < n → IsWithin reach (a i)) → GrowsSums depth d to a n old new
+    → ((t : ℕ) → t * depth + d < length old → IsWithin (1024 * reach) (get_or old (t * depth + d) (pos 0))) → IsWithin (2048 * reach) (get_or new k (pos 0))
+sums_room reach depth d to a n k old new place few inside small grown within =
     let t = to n in
     let under : t * depth + d < length old = omega (arith, inside, place) in
     let before = grown.each t under in
-    let come = comes_within to a t n small in
+    let come = comes_within reach to a t n small in
     let was = within t under in
-    subst (λ j. IsWithin 2305843009213693952 (get_or new j (pos 0))) place (omega (arith, ints, before, come.0, was.0, few), omega (arith, ints, before, come.1, was.1, few))
+    let all : n * reach ≤ 256 * reach = mul-le-mul_right reach few in
+    subst (λ j. IsWithin (2048 * reach) (get_or new j (pos 0))) place (omega (arith, ints, before, come.0, was.0, all), omega (arith, ints, before, come.1, was.1, all))

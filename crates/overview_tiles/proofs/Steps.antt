@@ -1,5 +1,5 @@
 -- Steps of the loops that lay a raster.
-use Rattle.std.proofs.Common.{◌≡◌, ◌≢◌, ℕ, ℤ, zero, suc, ◌∷◌, map, ◌+◌, ◌-◌, ◌*◌, ◌/◌, ◌%◌, ◌<◌, ◌≤◌, Bool, true, false, cond, List, [], length, get_or, Option, Some, None, refl, sym, ap, ◌∙◌, subst, arith, ⊎_elim}
+use Rattle.std.proofs.Common.{◌≡◌, ◌≢◌, ℕ, ℤ, zero, suc, ◌∷◌, map, ◌+◌, ◌-◌, ◌*◌, ◌/◌, ◌%◌, ◌<◌, ◌≤◌, ◌⊎◌, inl, inr, Bool, true, false, cond, List, [], length, get_or, Option, Some, None, refl, sym, ap, ◌∙◌, subst, arith, ⊎_elim}
 use Rattle.std.specs.Prelude.{pos, ◌+ℤ◌, ◌≤ℤ◌, is_some, unwrap_or}
 use Rattle.std.proofs.lemmas.Int.{ints}
 use Rattle.std.proofs.lemmas.Nat.{mul-add-lt, div-mul-add, mod-mul-add}
@@ -14,9 +14,10 @@ use Rattle.raster_values.specs.Raster.{Pixels, IsRaster, IsPixel}
 use Rattle.raster_cells.specs.Shapes.{IsShape}
 use Rattle.raster_values.specs.Flat.{value_in}
 use Rattle.overview_tiles.specs.declared.layer.Frame.{Frame}
-use Rattle.overview_tiles.specs.inside.Comes.{GrowsCounts, GrowsSums, IsWithin, comes, in_row, mark_in, marks_amount, one_of, ones, total_at, values_amount}
+use Rattle.overview_tiles.specs.inside.Comes.{GrowsCounts, GrowsSums, IsWithin, comes, in_row, mark_in, marks_amount, one_of, ones, total_at}
+use Rattle.overview_tiles.specs.inside.Reach.{reach_of}
 use Rattle.overview_tiles.specs.inside.Lays.{AreWithin, CountsFit, IsPlaced, LaysDepths, LaysMarks, LaysValues}
-use Rattle.overview_tiles.proofs.Comes.{comes_none, comes_same, comes_join, comes_up, comes_within, counts_start}
+use Rattle.overview_tiles.proofs.Comes.{comes_none, comes_same, comes_join, comes_up, comes_marked, counts_start}
 
 abbrev pub total_in : Frame → ℕ → ℕ
 total_in f k = total_at f.cols f.top f.left k
@@ -73,7 +74,7 @@ fits_front f r from n m c fit t less =
 
 -- ---- bounds of values
 
-range_within : (kind : PixelType) (z : ℤ) → InRange kind z → IsWithin 4294967296 z
+pub range_within : (kind : PixelType) (z : ℤ) → InRange kind z → IsWithin (reach_of kind) z
 range_within I8 z h = (omega (arith, ints, h.0), omega (arith, ints, h.1))
 range_within U8 z h = (omega (arith, ints, h.0), omega (arith, ints, h.1))
 range_within I16 z h = (omega (arith, ints, h.0), omega (arith, ints, h.1))
@@ -81,29 +82,46 @@ range_within U16 z h = (omega (arith, ints, h.0), omega (arith, ints, h.1))
 range_within I32 z h = (omega (arith, ints, h.0), omega (arith, ints, h.1))
 range_within U32 z h = (omega (arith, ints, h.0), omega (arith, ints, h.1))
 
-zero_within : IsWithin 4294967296 (pos 0)
-zero_within = (omega (arith, ints), omega (arith, ints))
+pub range_small : (kind : PixelType) (z : ℤ) → InRange kind z → IsWithin 4294967296 z
+range_small I8 z h = (omega (arith, ints, h.0), omega (arith, ints, h.1))
+range_small U8 z h = (omega (arith, ints, h.0), omega (arith, ints, h.1))
+range_small I16 z h = (omega (arith, ints, h.0), omega (arith, ints, h.1))
+range_small U16 z h = (omega (arith, ints, h.0), omega (arith, ints, h.1))
+range_small I32 z h = (omega (arith, ints, h.0), omega (arith, ints, h.1))
+range_small U32 z h = (omega (arith, ints, h.0), omega (arith, ints, h.1))
 
-pixel_within : (kind : PixelType) (depth d : ℕ) (p : Option (List ℤ)) → IsPixel kind depth p → IsWithin 4294967296 (get_or (unwrap_or p []) d (pos 0))
-pixel_within kind depth d None h = zero_within
+zero_within : (reach : ℕ) → IsWithin reach (pos 0)
+zero_within reach = (omega (arith, ints), omega (arith, ints))
+
+pixel_within : (kind : PixelType) (depth d : ℕ) (p : Option (List ℤ)) → IsPixel kind depth p → IsWithin (reach_of kind) (get_or (unwrap_or p []) d (pos 0))
+pixel_within kind depth d None h = zero_within (reach_of kind)
 pixel_within kind depth d (Some v) h =
     ⊎_elim
     (λ (less : d < length v). range_within kind (get_or v d (pos 0)) (All-get_or (InRange kind) v d (pos 0) less h.1))
-    (λ (past : length v ≤ d). subst (IsWithin 4294967296) (sym (get_or_past v d (pos 0) past)) zero_within)
+    (λ (past : length v ≤ d). subst (IsWithin (reach_of kind)) (sym (get_or_past v d (pos 0) past)) (zero_within (reach_of kind)))
     (cases_lt d (length v))
 
-pub value_within : (r : Pixels) (d k : ℕ) → IsRaster r → IsWithin 4294967296 (value_in r d k)
+pub value_within : (r : Pixels) (d k : ℕ) → IsRaster r → IsWithin (reach_of r.kind) (value_in r d k)
 value_within r d k h =
     ⊎_elim
     (λ (less : k < length r.pixels). pixel_within r.kind r.depth d (get_or r.pixels k None) (h.each k less))
-    (λ (past : length r.pixels ≤ k). subst (λ (p : Option (List ℤ)). IsWithin 4294967296 (get_or (unwrap_or p []) d (pos 0))) (sym (get_or_past r.pixels k None past)) zero_within)
+    (λ (past : length r.pixels ≤ k). subst (λ (p : Option (List ℤ)). IsWithin (reach_of r.kind) (get_or (unwrap_or p []) d (pos 0))) (sym (get_or_past r.pixels k None past)) (zero_within (reach_of r.kind)))
     (cases_lt k (length r.pixels))
 
-pub within_rest : (f : Frame) (r : Pixels) (from n bound places : ℕ) (s0 s1 : List ℤ) → IsRaster r → n ≤ 16777216 → AreWithin bound places f.depth s0 → LaysValues f r from n places s0 s1 → AreWithin (bound + 72057594037927936) places f.depth s1
-within_rest f r from n bound places s0 s1 h few small lays t d less deep =
+-- an invalid pixel has no value
+marked_or : (d : ℕ) (p : Option (List ℤ)) → ((one_of (is_some p) ≡ pos 0) × (get_or (unwrap_or p []) d (pos 0) ≡ pos 0)) ⊎ (one_of (is_some p) ≡ pos 1)
+marked_or d None = inl (refl, refl)
+marked_or d (Some v) = inr refl
+
+pub within_rest : (reach : ℕ) (f : Frame) (r : Pixels) (from n bound places : ℕ) (counts : List ℕ) (s0 s1 : List ℤ) → IsRaster r → reach ≡ reach_of r.kind → places ≤ length counts → CountsFit f r from n counts
+    → AreWithin bound places f.depth s0 → LaysValues f r from n places s0 s1 → AreWithin (bound + 255 * reach) places f.depth s1
+within_rest reach f r from n bound places counts s0 s1 h is room fits small lays t d less deep =
     let grown = lays t d less deep in
     let before = small t d less deep in
-    let come = comes_within (λ i. total_in f (from + i)) (λ i. value_in r d (from + i)) t n (λ i under. value_within r d (from + i) h) in
+    let fit = fits t (omega (arith, less, room)) in
+    let few : comes (λ i. total_in f (from + i)) (λ i. mark_in r (from + i)) t n ≤ℤ pos 255 = omega (arith, ints, fit) in
+    let come = comes_marked reach (λ i. total_in f (from + i)) (λ i. value_in r d (from + i)) (λ i. mark_in r (from + i)) t n 255 (λ i. subst (λ m. IsWithin m (value_in r d (from + i))) (sym is) (value_within r d (from + i) h))
+    (λ i. marked_or d (get_or r.pixels (from + i) None)) few in
     (omega (arith, ints, grown, before.0, come.0), omega (arith, ints, grown, before.1, come.1))
 
 pub within_more : (a b places depth : ℕ) (s : List ℤ) → a ≤ b → AreWithin a places depth s → AreWithin b places depth s
@@ -148,12 +166,11 @@ piece_counts f r row col n marks old new across size are h = record {
       h.each t less ∙ ap (λ z. pos (get_or old t 0) +ℤ z) (piece_comes f r row col n marks t across size are);
 }
 
-pub piece_values : (f : Frame) (r : Pixels) (row col n d : ℕ) (values : List ℤ) (t : ℕ) → col + n ≤ f.cols → length values ≡ n
-    → ((i : ℕ) → i < n → get_or values i (pos 0) ≡ value_in r d (row * f.cols + col + i))
-    → comes (in_row ((f.top + row) / 2 * f.cols) (f.left + col)) (values_amount values) t (length values) ≡ comes (λ i. total_in f (row * f.cols + col + i)) (λ i. value_in r d (row * f.cols + col + i)) t n
-piece_values f r row col n d values t across size are =
-    ap (comes (in_row ((f.top + row) / 2 * f.cols) (f.left + col)) (values_amount values) t) size
-    ∙ comes_same (in_row ((f.top + row) / 2 * f.cols) (f.left + col)) (λ i. total_in f (row * f.cols + col + i)) (values_amount values) (λ i. value_in r d (row * f.cols + col + i)) t n
+pub piece_values : (f : Frame) (r : Pixels) (row col n d : ℕ) (amount : ℕ → ℤ) (t : ℕ) → col + n ≤ f.cols
+    → ((i : ℕ) → i < n → amount i ≡ value_in r d (row * f.cols + col + i))
+    → comes (in_row ((f.top + row) / 2 * f.cols) (f.left + col)) amount t n ≡ comes (λ i. total_in f (row * f.cols + col + i)) (λ i. value_in r d (row * f.cols + col + i)) t n
+piece_values f r row col n d amount t across are =
+    comes_same (in_row ((f.top + row) / 2 * f.cols) (f.left + col)) (λ i. total_in f (row * f.cols + col + i)) amount (λ i. value_in r d (row * f.cols + col + i)) t n
     (λ i less. row_total f row col i (omega (arith, across, less)))
     (λ i less. are i less)
 
@@ -192,17 +209,17 @@ depths_none f r from n places s = record {
 pub depths_all : (f : Frame) (r : Pixels) (from n places d : ℕ) (s0 s1 : List ℤ) → f.depth ≤ d → LaysDepths f r from n places d s0 s1 → LaysValues f r from n places s0 s1
 depths_all f r from n places d s0 s1 past h t e less deep = h.done t e less (omega (arith, deep, past))
 
-pub depths_more : (f : Frame) (r : Pixels) (row col n places d : ℕ) (values : List ℤ) (s0 s1 s2 : List ℤ) → d < f.depth → col + n ≤ f.cols → length values ≡ n
+pub depths_more : (f : Frame) (r : Pixels) (row col n places d : ℕ) (amount : ℕ → ℤ) (s0 s1 s2 : List ℤ) → d < f.depth → col + n ≤ f.cols
     → ((t : ℕ) → t < places → t * f.depth + d < length s1)
-    → ((i : ℕ) → i < n → get_or values i (pos 0) ≡ value_in r d (row * f.cols + col + i))
-    → GrowsSums f.depth d (in_row ((f.top + row) / 2 * f.cols) (f.left + col)) (values_amount values) (length values) s1 s2
+    → ((i : ℕ) → i < n → amount i ≡ value_in r d (row * f.cols + col + i))
+    → GrowsSums f.depth d (in_row ((f.top + row) / 2 * f.cols) (f.left + col)) amount n s1 s2
     → LaysDepths f r (row * f.cols + col) n places d s0 s1 → LaysDepths f r (row * f.cols + col) n places (d + 1) s0 s2
-depths_more f r row col n places d values s0 s1 s2 deep across size room are grown h = record {
+depths_more f r row col n places d amount s0 s1 s2 deep across room are grown h = record {
   done = λ t e less under.
       ⊎_elim
       (λ (same : e ≡ d).
       let P : ℕ → Type 0 = λ j. get_or s2 (t * f.depth + j) (pos 0) ≡ get_or s0 (t * f.depth + j) (pos 0) +ℤ comes (λ i. total_in f (row * f.cols + col + i)) (λ i. value_in r j (row * f.cols + col + i)) t n in
-      let came = piece_values f r row col n d values t across size are in
+      let came = piece_values f r row col n d amount t across are in
       let here : P d = grown.each t (room t less) ∙ ap (λ z. get_or s1 (t * f.depth + d) (pos 0) +ℤ z) came ∙ ap (λ z. z +ℤ comes (λ i. total_in f (row * f.cols + col + i)) (λ i. value_in r d (row * f.cols + col + i)) t n) (h.rest t d (omega arith) deep) in
       subst P (sym same) here)
       (λ (ne : e ≢ d).

@@ -1,9 +1,9 @@
 -- A tile laid as a quarter of a mosaic.
-use Rattle.std.proofs.Common.{◌≡◌, ◌≢◌, ℕ, ℤ, ◌+◌, ◌*◌, ◌/◌, ◌%◌, ◌<◌, ◌≤◌, Bool, true, false, cond, List, [], length, get_or, Option, Some, None, refl, sym, ap, ◌∙◌, subst, arith, ⊎_elim, w64, FitsSigned, to_z, of_z}
+use Rattle.std.proofs.Common.{◌≡◌, ◌≢◌, ℕ, ℤ, ◌+◌, ◌*◌, ◌/◌, ◌%◌, ◌<◌, ◌≤◌, Bool, true, false, cond, List, [], length, get_or, Option, Some, None, refl, sym, ap, ◌∙◌, subst, arith, ⊎_elim}
 use Rattle.std.specs.Prelude.{pos, ◌*ℤ◌, ◌≤ℤ◌, All, IfSome, is_some, nat_eq, slice_get}
 use Rattle.std.proofs.Math.ListN.{set}
 use Rattle.std.proofs.Math.Nat.{mul-le-mul_right}
-use Rattle.std.proofs.lemmas.Int.{ints, to_z-of_z}
+use Rattle.std.proofs.lemmas.Int.{ints}
 use Rattle.std.proofs.lemmas.Nat.{div_below, mod_below, div-add-mod'}
 use Rattle.std.proofs.lemmas.Bool.{eq-eqb, ne_eqb, cases_eq, false≢true}
 use Rattle.std.proofs.lemmas.Option.{none-some, get_or_from_slice_get, slice_get_within, slice_get-get_or}
@@ -20,6 +20,7 @@ use Rattle.overview_tiles.specs.Half.{Quarters, four_pixels, valid_of, sum_at}
 use Rattle.overview_tiles.specs.Tiles.{Tiles, band_of, band_in, with_tile}
 use Rattle.overview_tiles.specs.Sums.{AreBandSums, AreSums, HasShape, IsLikeMosaic, IsTileOf, Kept, Sums, no_sums}
 use Rattle.overview_tiles.specs.inside.Comes.{IsWithin}
+use Rattle.overview_tiles.specs.inside.Reach.{reach_of}
 use Rattle.overview_tiles.specs.inside.Lays.{AreWithin, CanLay, LaysAll}
 use Rattle.overview_tiles.specs.inside.Means.{HaveMeans}
 use Rattle.overview_tiles.specs.inside.View.{HasRoom}
@@ -63,7 +64,7 @@ is_free m tiles q few h e = none_of (tiles q) (sym (h.laid q few) ∙ e)
 
 -- ---- before a tile is laid
 
-sum_within : (kind : PixelType) (n : ℕ) (z : ℤ) → n ≤ 4 → (pos n *ℤ type_least kind) ≤ℤ z → z ≤ℤ (pos n *ℤ type_greatest kind) → IsWithin 144115188075855872 z
+sum_within : (kind : PixelType) (n : ℕ) (z : ℤ) → n ≤ 4 → (pos n *ℤ type_least kind) ≤ℤ z → z ≤ℤ (pos n *ℤ type_greatest kind) → IsWithin (4 * reach_of kind) z
 sum_within I8 n z few low high = (omega (arith, ints, few, low, high), omega (arith, ints, few, low, high))
 sum_within U8 n z few low high = (omega (arith, ints, few, low, high), omega (arith, ints, few, low, high))
 sum_within I16 n z few low high = (omega (arith, ints, few, low, high), omega (arith, ints, few, low, high))
@@ -73,20 +74,14 @@ sum_within U32 n z few low high = (omega (arith, ints, few, low, high), omega (a
 
 -- and such a sum is small
 pub sum_bound : (kind : PixelType) (places depth k d : ℕ) (counts : List ℕ) (sums : List ℤ) → HaveMeans kind places depth counts sums → k < places → d < depth → 0 < get_or counts k 0
-    → IsWithin 144115188075855872 (get_or sums (k * depth + d) (pos 0))
+    → IsWithin (4 * reach_of kind) (get_or sums (k * depth + d) (pos 0))
 sum_bound kind places depth k d counts sums h inside deep some =
     sum_within kind (get_or counts k 0) (get_or sums (k * depth + d) (pos 0)) (h.few k) (h.least k d inside deep some) (h.greatest k d inside deep some)
 
--- such a sum is a number of 64 bits
-pub sum_round : (kind : PixelType) (places depth k d : ℕ) (counts : List ℕ) (sums : List ℤ) → HaveMeans kind places depth counts sums → k < places → d < depth → 0 < get_or counts k 0
-    → to_z w64 (of_z w64 (get_or sums (k * depth + d) (pos 0))) ≡ get_or sums (k * depth + d) (pos 0)
-sum_round kind places depth k d counts sums h inside deep some =
-    let x = get_or sums (k * depth + d) (pos 0) in
-    let small = sum_within kind (get_or counts k 0) x (h.few k) (h.least k d inside deep some) (h.greatest k d inside deep some) in
-    let fits : FitsSigned w64 x = omega (arith, ints, small.0, small.1) in
-    to_z-of_z w64 x fits
+more_within : (reach : ℕ) (z : ℤ) → IsWithin (4 * reach) z → IsWithin (256 * reach) z
+more_within reach z h = (omega (arith, ints, h.0), omega (arith, ints, h.1))
 
-pub kept_within : (kind : PixelType) (rows cols depth : ℕ) (quarters : Quarters) (s : Sums) → 0 < rows → 0 < cols → AreOf kind rows cols depth quarters → AreBandSums rows cols depth quarters s → AreWithin 144115188075855872 (rows * cols) depth s.sums
+pub kept_within : (kind : PixelType) (rows cols depth : ℕ) (quarters : Quarters) (s : Sums) → 0 < rows → 0 < cols → AreOf kind rows cols depth quarters → AreBandSums rows cols depth quarters s → AreWithin (256 * reach_of kind) (rows * cols) depth s.sums
 kept_within kind rows cols depth quarters s hr hc of h t d inside deep =
     let row = t / cols in
     let col = t % cols in
@@ -96,7 +91,7 @@ kept_within kind rows cols depth quarters s hr hc of h t d inside deep =
     let fours = four_pixels rows cols quarters row col in
     let each = four_in kind rows cols depth d quarters row col deep hr hc of in
     let is : get_or s.sums (t * depth + d) (pos 0) ≡ sum_at d (valid_of fours) = ap (λ k. get_or s.sums (k * depth + d) (pos 0)) (sym at) ∙ h.sums row col d below beside deep in
-    subst (IsWithin 144115188075855872) (sym is) (sum_within kind (length (valid_of fours)) (sum_at d (valid_of fours)) (few_valid fours) (sum_least kind d fours each) (sum_greatest kind d fours each))
+    subst (IsWithin (256 * reach_of kind)) (sym is) (more_within (reach_of kind) (sum_at d (valid_of fours)) (sum_within kind (length (valid_of fours)) (sum_at d (valid_of fours)) (few_valid fours) (sum_least kind d fours each) (sum_greatest kind d fours each)))
 
 half_le : (q n : ℕ) → q < 2 → q * n ≤ n
 half_le q n h = (let a : q * n ≤ 1 * n = mul-le-mul_right n (omega arith) in omega (arith, a))
@@ -126,7 +121,8 @@ can_lay m tiles q b tile r f few room h free bands of frame e =
       counts = room.counts b inside ∙ sym places;
       sums = room.sums b inside ∙ sym all;
       fits = λ t under. count_fits m.rows m.cols m.depth q f r (band_of b tiles) (band_of b (with_tile q tile tiles)) s frame shape with' hr hc few sums t (omega (arith, under, room.counts b inside));
-      within = subst (λ n. AreWithin 144115188075855872 (r.rows * r.cols) n s.sums) (sym frame.depth_is) (subst (λ n. AreWithin 144115188075855872 n m.depth s.sums) (sym places) (kept_within m.kind m.rows m.cols m.depth (band_of b tiles) s hr hc (are_of m tiles b h) sums));
+      within = subst (λ n. AreWithin (256 * reach_of r.kind) (r.rows * r.cols) n s.sums) (sym frame.depth_is) (subst (λ n. AreWithin (256 * reach_of r.kind) n m.depth s.sums) (sym places)
+          (subst (λ k. AreWithin (256 * reach_of k) (m.rows * m.cols) m.depth s.sums) (sym like.kind) (kept_within m.kind m.rows m.cols m.depth (band_of b tiles) s hr hc (are_of m tiles b h) sums)));
     }
 
 -- ---- after it was

@@ -1,6 +1,6 @@
-//! The raster of the means of a band's numbers.
+//! The means of a band's numbers, and a raster that is given them.
 
-ghost use Rattle.std.specs.Prelude.{◌≡◌, ℕ, ℤ, pos, ◌+◌, ◌↔◌, ◌*◌, ◌*ℤ◌, ◌≤ℤ◌, ◌/◌, ◌<◌, ◌≤◌, All, IfOk, IsTrue, get_or, length, nat_lt, true};
+ghost use Rattle.std.specs.Prelude.{◌≡◌, ℕ, ℤ, pos, ◌+◌, ◌↔◌, ◌*◌, ◌*ℤ◌, ◌≤ℤ◌, ◌/◌, ◌<◌, ◌≤◌, All, IfOk, IsTrue, get_or, length, map, nat_lt, true};
 ghost use Rattle.raster_cells.specs.declared.kind.PixelType.{PixelType as Kind};
 ghost use Rattle.raster_cells.specs.PixelType.{InRange};
 ghost use Rattle.raster_values.specs.Raster.{IsRaster, blank, valid_count};
@@ -8,10 +8,10 @@ ghost use Rattle.raster_cells.specs.Masks.{mask_bit};
 ghost use Rattle.raster_cells.specs.Shapes.{IsShape};
 ghost use Rattle.overview_tiles.specs.Half.{mean_of};
 ghost use Rattle.overview_tiles.specs.inside.Comes.{IsWithin};
-ghost use Rattle.overview_tiles.specs.inside.Means.{Counted, Fills, HasMeans, HaveMeans, byte_bit, mean_at};
+ghost use Rattle.overview_tiles.specs.inside.Means.{Counted, Fills, HaveMeans, byte_bit, mean_at};
+ghost use Rattle.overview_tiles.specs.inside.Reach.{reach_of};
 
-use super::layer::Layer;
-use super::mean::{mean, mean_or_zero};
+use super::sum::{Sum, mean_or_zero};
 use raster_values::{PixelType, Raster};
 use std::alloc::{AllocError, Global};
 
@@ -101,40 +101,47 @@ fn are_four(counts: &[u8]) -> bool
 }
 
 /// The means at a depth of pixels of which all four are valid.
-fn means_of_four(sums: &[i64], depth: usize, d: usize, place: usize, out: &mut [i64])
+fn means_of_four<S: Sum>(sums: &[S], depth: usize, d: usize, place: usize, out: &mut [i64])
     requires depth { d < depth }
     requires small { length sums.now ≤ 16777216 }
     requires room { (i : ℕ) → i < length out.old
         → (place + i) * depth + d < length sums.now }
-    requires within { (i : ℕ) → i < length out.old → IsWithin 1152921504606846976
-        (get_or sums.now ((place + i) * depth + d) (pos 0)) }
+    requires within { (i : ℕ) → i < length out.old → IsWithin (4 * S.reach)
+        (get_or (map S.number sums.now) ((place + i) * depth + d) (pos 0)) }
     ensures values { (i : ℕ) → i < length out.old → get_or out.new i (pos 0)
-        ≡ mean_of (get_or sums.now ((place + i) * depth + d) (pos 0)) (pos 4) }
+        ≡ mean_of (get_or (map S.number sums.now) ((place + i) * depth + d) (pos 0)) (pos 4) }
     ensures least { (i : ℕ) (least : ℤ) → i < length out.old
-        → (pos 4 *ℤ least) ≤ℤ get_or sums.now ((place + i) * depth + d) (pos 0)
+        → (pos 4 *ℤ least) ≤ℤ get_or (map S.number sums.now) ((place + i) * depth + d) (pos 0)
         → least ≤ℤ get_or out.new i (pos 0) }
     ensures greatest { (i : ℕ) (greatest : ℤ) → i < length out.old
-        → get_or sums.now ((place + i) * depth + d) (pos 0) ≤ℤ (pos 4 *ℤ greatest)
+        → get_or (map S.number sums.now) ((place + i) * depth + d) (pos 0) ≤ℤ (pos 4 *ℤ greatest)
         → get_or out.new i (pos 0) ≤ℤ greatest }
 {
     for (i, value) in out.iter_mut().enumerate() {
-        *value = mean(sums[(place + i) * depth + d], 4);
+        *value = sums[(place + i) * depth + d].mean(4);
     }
 }
 
 /// The means at a depth of the pixels from number `place` on, 0 where none of the four is valid.
-fn means_of_each(counts: &[u8], sums: &[i64], depth: usize, d: usize, place: usize, out: &mut [i64])
+fn means_of_each<S: Sum>(
+    counts: &[u8],
+    sums: &[S],
+    depth: usize,
+    d: usize,
+    place: usize,
+    out: &mut [i64],
+)
     requires depth { d < depth }
     requires small { length sums.now ≤ 16777216 }
     requires sums { length sums.now ≡ length counts.now * depth }
     requires within { place + length out.old ≤ length counts.now }
     requires few { (k : ℕ) → get_or counts.now k 0 ≤ 4 }
-    requires bounded { (kind : Kind) × HaveMeans kind (length counts.now) depth counts.now
-        sums.now }
+    requires bounded { (kind : Kind) × ((S.reach ≡ reach_of kind)
+        × HaveMeans kind (length counts.now) depth counts.now (map S.number sums.now)) }
     ensures values { (i : ℕ) → i < length out.old → get_or out.new i (pos 0)
-        ≡ mean_at depth counts.now sums.now d (place + i) }
+        ≡ mean_at depth counts.now (map S.number sums.now) d (place + i) }
     ensures in_range { (kind : Kind)
-        → HaveMeans kind (length counts.now) depth counts.now sums.now
+        → HaveMeans kind (length counts.now) depth counts.now (map S.number sums.now)
         → All (InRange kind) out.new }
 {
     for (i, value) in out.iter_mut().enumerate() {
@@ -143,19 +150,19 @@ fn means_of_each(counts: &[u8], sums: &[i64], depth: usize, d: usize, place: usi
 }
 
 /// The same, by one kind of means where all four are valid of each pixel.
-fn means(counts: &[u8], sums: &[i64], depth: usize, d: usize, place: usize, out: &mut [i64])
+fn means<S: Sum>(counts: &[u8], sums: &[S], depth: usize, d: usize, place: usize, out: &mut [i64])
     requires piece { length out.old ≤ 256 }
     requires depth { d < depth }
     requires small { length sums.now ≤ 16777216 }
     requires sums { length sums.now ≡ length counts.now * depth }
     requires within { place + length out.old ≤ length counts.now }
     requires few { (k : ℕ) → get_or counts.now k 0 ≤ 4 }
-    requires bounded { (kind : Kind) × HaveMeans kind (length counts.now) depth counts.now
-        sums.now }
+    requires bounded { (kind : Kind) × ((S.reach ≡ reach_of kind)
+        × HaveMeans kind (length counts.now) depth counts.now (map S.number sums.now)) }
     ensures values { (i : ℕ) → i < length out.old → get_or out.new i (pos 0)
-        ≡ mean_at depth counts.now sums.now d (place + i) }
+        ≡ mean_at depth counts.now (map S.number sums.now) d (place + i) }
     ensures in_range { (kind : Kind)
-        → HaveMeans kind (length counts.now) depth counts.now sums.now
+        → HaveMeans kind (length counts.now) depth counts.now (map S.number sums.now)
         → All (InRange kind) out.new }
 {
     if are_four(&counts[place..place + out.len()]) {
@@ -167,20 +174,21 @@ fn means(counts: &[u8], sums: &[i64], depth: usize, d: usize, place: usize, out:
 
 /// Gives the valid ones among `count` pixels from number `place` on their means at each depth. The
 /// room for one depth of them is lent.
-fn fill_depths(
+fn fill_depths<S: Sum>(
     raster: &mut Raster,
     counts: &[u8],
-    sums: &[i64],
+    sums: &[S],
     place: usize,
     count: usize,
     room: &mut [i64],
 )
     requires size { length room.old ≡ count }
     requires few { count ≤ 256 }
+    requires reach { S.reach ≡ reach_of raster.old.kind }
     requires means { HaveMeans raster.old.kind (raster.old.rows * raster.old.cols)
-        raster.old.depth counts.now sums.now }
+        raster.old.depth counts.now (map S.number sums.now) }
     requires within { place + count ≤ raster.old.rows * raster.old.cols }
-    ensures { Fills counts.now sums.now place count raster.old raster.new }
+    ensures { Fills counts.now (map S.number sums.now) place count raster.old raster.new }
 {
     let depth = raster.depth();
     for d in 0..depth {
@@ -190,10 +198,11 @@ fn fill_depths(
 }
 
 /// Gives the valid pixels their means.
-fn fill(raster: &mut Raster, counts: &[u8], sums: &[i64])
-    requires { HaveMeans raster.old.kind (raster.old.rows * raster.old.cols) raster.old.depth
-        counts.now sums.now }
-    ensures fills { Fills counts.now sums.now 0 (raster.old.rows * raster.old.cols)
+pub(crate) fn fill<S: Sum>(raster: &mut Raster, counts: &[u8], sums: &[S])
+    requires reach { S.reach ≡ reach_of raster.old.kind }
+    requires means { HaveMeans raster.old.kind (raster.old.rows * raster.old.cols) raster.old.depth
+        counts.now (map S.number sums.now) }
+    ensures fills { Fills counts.now (map S.number sums.now) 0 (raster.old.rows * raster.old.cols)
         raster.old raster.new }
     ensures sound { IsRaster raster.new }
 {
@@ -210,7 +219,7 @@ fn fill(raster: &mut Raster, counts: &[u8], sums: &[i64])
 }
 
 /// A raster of which those pixels are valid whose count is not 0.
-fn counted_raster(
+pub(crate) fn counted_raster(
     alloc: Global,
     kind: PixelType,
     rows: u32,
@@ -226,24 +235,4 @@ fn counted_raster(
         Ok(raster) => mark_counted(alloc, raster, counts),
         Err(_) => Err(AllocError),
     }
-}
-
-/// The raster that has the means of a band's numbers.
-pub(crate) fn half_band(
-    alloc: Global,
-    kind: PixelType,
-    rows: u32,
-    cols: u32,
-    depth: u32,
-    layer: &Layer,
-) -> Result<Raster, AllocError>
-    requires shape { IsShape rows cols depth }
-    requires means { HaveMeans kind (rows * cols) depth layer.now.counts layer.now.sums }
-    ensures { IfOk result (λ r. HasMeans kind rows cols depth layer.now r) }
-{
-    let counts = layer.counts();
-    let sums = layer.sums();
-    let mut raster = counted_raster(alloc, kind, rows, cols, depth, counts)?;
-    fill(&mut raster, counts, sums);
-    Ok(raster)
 }

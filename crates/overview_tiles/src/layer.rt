@@ -1,33 +1,51 @@
-//! The numbers of one band of a mosaic, and a raster laid into them.
+//! The numbers of one band of a mosaic, a raster laid into them, and the raster of their means.
 
-ghost use Rattle.std.specs.Prelude.{◌≡◌, ℕ, ℤ, pos, ◌+◌, ◌*◌, ◌/◌, ◌%◌, ◌<◌, ◌≤◌, ◌^◌, ◌+ℤ◌, ◌≤ℤ◌, None, is_some, length, get_or, replicate, IfOk, true, false};
+ghost use Rattle.std.specs.Prelude.{◌≡◌, ℕ, pos, ◌+◌, ◌*◌, ◌/◌, ◌%◌, ◌<◌, ◌≤◌, ◌^◌, ◌+ℤ◌, ◌≤ℤ◌, None, is_some, length, get_or, map, replicate, IfOk, true, false};
+ghost use Rattle.raster_cells.specs.Shapes.{IsShape};
 ghost use Rattle.raster_values.specs.Raster.{IsRaster};
-ghost use Rattle.raster_values.specs.Flat.{value_in};
-ghost use Rattle.overview_tiles.specs.Sums.{zero_sums};
-ghost use Rattle.overview_tiles.specs.inside.Comes.{GrowsCounts, GrowsSums, IsWithin, comes, in_row, marks_amount, ones, total_at, values_amount};
+ghost use Rattle.overview_tiles.specs.inside.Comes.{GrowsCounts, comes, in_row, marks_amount, ones, total_at};
+ghost use Rattle.overview_tiles.specs.inside.Layers.{HasWidth, listed};
 ghost use Rattle.overview_tiles.specs.inside.Lays.{AreWithin, CanLay, CountsFit, IsPlaced, LaysAll, LaysMarks, LaysValues};
+ghost use Rattle.overview_tiles.specs.inside.Means.{HasMeans, HaveMeans};
+ghost use Rattle.overview_tiles.specs.inside.Numbers.{zero_numbers};
+ghost use Rattle.overview_tiles.specs.inside.Reach.{reach_of};
 
-use raster_values::Raster;
+use super::halving::{counted_raster, fill};
+use super::sum::Sum;
+use super::values::{Piece, add_values};
+use raster_values::{PixelType, Raster};
 use std::alloc::{AllocError, Global};
 use std::marker::Model;
 
 /// How many pixels are laid at once.
 const PIECE: usize = 256;
 
+/// The sums of a band's values, of 32 bits where these have at most 16.
+#[derive(Drop)]
+enum SumList {
+    Narrow(Vec<i32>),
+    Wide(Vec<i64>),
+}
+
 /// The numbers of one band: of each pixel of the half how many of its four are valid, and the sums
 /// of their values, the depths innermost.
 #[derive(Drop)]
 pub(crate) struct Layer {
+    kind: PixelType,
     counts: Vec<u8>,
-    sums: Vec<i64>,
+    sums: SumList,
 }
 
 impl Model for Layer {
-    ghost use Rattle.overview_tiles.specs.Sums.{Sums};
+    ghost use Rattle.overview_tiles.specs.inside.Numbers.{Numbers};
 
-    ghost Value = { Sums };
+    ghost Value = { Numbers };
 
-    ghost view = { λ l. record { counts = l.counts.items; sums = l.sums.items } };
+    ghost use Rattle.overview_tiles.specs.inside.Layers.{IsLayer, seen_layer};
+
+    ghost view = { seen_layer };
+
+    ghost invariant = { IsLayer };
 }
 
 /// Where a quarter lies: its columns and depths, and the place of its first pixel in the mosaic.
@@ -114,111 +132,40 @@ fn add_marks(marks: &[bool], base: usize, col: usize, counts: &mut [u8])
     }
 }
 
-/// Adds the values of the pixels of a row at a depth to their sums, one by one: the pixel of the
-/// first value stands in the column `col` of the mosaic, and the sums of its row begin with that
-/// number `base`.
-fn add_each_value(values: &[i64], base: usize, col: usize, depth: usize, d: usize, sums: &mut [i64])
-    requires low { base < 2 ^ 32 }
-    requires left { col < 2 ^ 32 }
-    requires few { length values.now ≤ 256 }
-    requires depth { d < depth }
-    requires depths { depth ≤ 65536 }
-    requires room { (i : ℕ) → i < length values.now
-        → in_row base col i * depth + d < length sums.old }
-    requires small { (i : ℕ) → i < length values.now
-        → IsWithin 4294967296 (get_or values.now i (pos 0)) }
-    requires within { (t : ℕ) → t * depth + d < length sums.old
-        → IsWithin 1152921504606846976 (get_or sums.old (t * depth + d) (pos 0)) }
-    ensures { GrowsSums depth d (in_row base col) (values_amount values.now) (length values.now)
-        sums.old sums.new }
-{
-    for (i, value) in values.iter().enumerate() {
-        sums[(base + (col + i) / 2) * depth + d] += *value;
-    }
-}
-
-/// The same, where the first pixel stands in an even column and their number is even: each two
-/// pixels come to one sum.
-fn add_value_pairs(
-    values: &[i64],
-    base: usize,
-    col: usize,
-    depth: usize,
-    d: usize,
-    sums: &mut [i64],
-)
-    requires low { base < 2 ^ 32 }
-    requires left { col < 2 ^ 32 }
-    requires few { length values.now ≤ 256 }
-    requires depth { d < depth }
-    requires depths { depth ≤ 65536 }
-    requires room { (i : ℕ) → i < length values.now
-        → in_row base col i * depth + d < length sums.old }
-    requires small { (i : ℕ) → i < length values.now
-        → IsWithin 4294967296 (get_or values.now i (pos 0)) }
-    requires within { (t : ℕ) → t * depth + d < length sums.old
-        → IsWithin 1152921504606846976 (get_or sums.old (t * depth + d) (pos 0)) }
-    requires even { col % 2 ≡ 0 }
-    requires pairs { length values.now % 2 ≡ 0 }
-    ensures { GrowsSums depth d (in_row base col) (values_amount values.now) (length values.now)
-        sums.old sums.new }
-{
-    let first = base + col / 2;
-    for k in 0..values.len() / 2 {
-        sums[(first + k) * depth + d] += values[2 * k] + values[2 * k + 1];
-    }
-}
-
-/// Adds the values of the pixels of a row at a depth to their sums.
-fn add_values(values: &[i64], base: usize, col: usize, depth: usize, d: usize, sums: &mut [i64])
-    requires low { base < 2 ^ 32 }
-    requires left { col < 2 ^ 32 }
-    requires few { length values.now ≤ 256 }
-    requires depth { d < depth }
-    requires depths { depth ≤ 65536 }
-    requires room { (i : ℕ) → i < length values.now
-        → in_row base col i * depth + d < length sums.old }
-    requires small { (i : ℕ) → i < length values.now
-        → IsWithin 4294967296 (get_or values.now i (pos 0)) }
-    requires within { (t : ℕ) → t * depth + d < length sums.old
-        → IsWithin 1152921504606846976 (get_or sums.old (t * depth + d) (pos 0)) }
-    ensures { GrowsSums depth d (in_row base col) (values_amount values.now) (length values.now)
-        sums.old sums.new }
-{
-    if col % 2 == 0 && values.len() % 2 == 0 {
-        add_value_pairs(values, base, col, depth, d, sums);
-    } else {
-        add_each_value(values, base, col, depth, d, sums);
-    }
-}
-
-/// Adds the values of `count` pixels of a row to their sums at each depth. The room for one depth
-/// of them is lent.
-fn lay_values(
+/// Adds the values of `count` pixels of a row to their sums at each depth.
+fn lay_values<S: Sum>(
     raster: &Raster,
     frame: Frame,
     row: usize,
     col: usize,
     count: usize,
-    room: &mut [i64],
-    sums: &mut [i64],
+    sums: &mut [S],
 )
     requires row { row < raster.now.rows }
     requires cols { col + count ≤ frame.cols }
     requires few { count ≤ 256 }
-    requires size { length room.old ≡ count }
     requires placed { IsPlaced frame raster.now }
+    requires reach { S.reach ≡ reach_of raster.now.kind }
     requires sums { length sums.old ≡ raster.now.rows * raster.now.cols * raster.now.depth }
-    requires within { AreWithin 576460752303423488 (raster.now.rows * raster.now.cols) frame.depth
-        sums.old }
+    requires within { AreWithin (1024 * S.reach) (raster.now.rows * raster.now.cols) frame.depth
+        (map S.number sums.old) }
     ensures { LaysValues frame raster.now (row * frame.cols + col) count
-        (raster.now.rows * raster.now.cols) sums.old sums.new }
+        (raster.now.rows * raster.now.cols) (map S.number sums.old) (map S.number sums.new) }
 {
-    let place = row * frame.cols + col;
+    let samples = raster.samples();
+    let cells = samples.read();
+    let first = row * frame.cols + col;
     let base = (frame.top + row) / 2 * frame.cols;
     for d in 0..frame.depth {
-        raster.values_from(place, d as u32, room);
-        add_values(room, base, frame.left + col, frame.depth, d, sums);
+        let piece = Piece {
+            first,
+            count,
+            depth: frame.depth,
+            d,
+            base,
+            col: frame.left + col,
+        };
+        add_values(&cells, piece, sums);
     }
 }
 
@@ -265,33 +212,33 @@ fn lay_marks(
 }
 
 /// Lays `count` pixels of a row.
-fn lay_piece(
+fn lay_piece<S: Sum>(
     raster: &Raster,
     frame: Frame,
     row: usize,
     col: usize,
     count: usize,
     counts: &mut [u8],
-    sums: &mut [i64],
+    sums: &mut [S],
 )
     requires row { row < raster.now.rows }
     requires cols { col + count ≤ frame.cols }
     requires few { count ≤ 256 }
     requires placed { IsPlaced frame raster.now }
+    requires reach { S.reach ≡ reach_of raster.now.kind }
     requires counts { length counts.old ≡ raster.now.rows * raster.now.cols }
     requires sums { length sums.old ≡ raster.now.rows * raster.now.cols * raster.now.depth }
     requires fits { CountsFit frame raster.now (row * frame.cols + col) count counts.old }
-    requires within { AreWithin 576460752303423488 (raster.now.rows * raster.now.cols) frame.depth
-        sums.old }
+    requires within { AreWithin (1024 * S.reach) (raster.now.rows * raster.now.cols) frame.depth
+        (map S.number sums.old) }
     ensures counts { LaysMarks frame raster.now (row * frame.cols + col) count
         counts.old counts.new }
     ensures sums { LaysValues frame raster.now (row * frame.cols + col) count
-        (raster.now.rows * raster.now.cols) sums.old sums.new }
+        (raster.now.rows * raster.now.cols) (map S.number sums.old) (map S.number sums.new) }
 {
     let mut marks = [false; PIECE];
-    let mut values = [0i64; PIECE];
     lay_marks(raster, frame, row, col, count, &mut marks[..count], counts);
-    lay_values(raster, frame, row, col, count, &mut values[..count], sums);
+    lay_values(raster, frame, row, col, count, sums);
 }
 
 /// How many of the next `left` pixels of a row, of which the first stands in this column of the
@@ -310,18 +257,19 @@ fn piece_of(col: usize, left: usize) -> usize
 }
 
 /// Lays the pixels of a row.
-fn lay_row(raster: &Raster, frame: Frame, row: usize, counts: &mut [u8], sums: &mut [i64])
+fn lay_row<S: Sum>(raster: &Raster, frame: Frame, row: usize, counts: &mut [u8], sums: &mut [S])
     requires row { row < raster.now.rows }
     requires placed { IsPlaced frame raster.now }
+    requires reach { S.reach ≡ reach_of raster.now.kind }
     requires counts { length counts.old ≡ raster.now.rows * raster.now.cols }
     requires sums { length sums.old ≡ raster.now.rows * raster.now.cols * raster.now.depth }
     requires fits { CountsFit frame raster.now (row * frame.cols) frame.cols counts.old }
-    requires within { AreWithin 288230376151711744 (raster.now.rows * raster.now.cols) frame.depth
-        sums.old }
+    requires within { AreWithin (512 * S.reach) (raster.now.rows * raster.now.cols) frame.depth
+        (map S.number sums.old) }
     ensures counts { LaysMarks frame raster.now (row * frame.cols) frame.cols
         counts.old counts.new }
     ensures sums { LaysValues frame raster.now (row * frame.cols) frame.cols
-        (raster.now.rows * raster.now.cols) sums.old sums.new }
+        (raster.now.rows * raster.now.cols) (map S.number sums.old) (map S.number sums.new) }
 {
     let mut col = 0;
     while col < frame.cols {
@@ -332,17 +280,18 @@ fn lay_row(raster: &Raster, frame: Frame, row: usize, counts: &mut [u8], sums: &
 }
 
 /// Lays all pixels of a raster.
-fn lay_rows(raster: &Raster, frame: Frame, counts: &mut [u8], sums: &mut [i64])
+fn lay_rows<S: Sum>(raster: &Raster, frame: Frame, counts: &mut [u8], sums: &mut [S])
     requires placed { IsPlaced frame raster.now }
+    requires reach { S.reach ≡ reach_of raster.now.kind }
     requires counts { length counts.old ≡ raster.now.rows * raster.now.cols }
     requires sums { length sums.old ≡ raster.now.rows * raster.now.cols * raster.now.depth }
     requires fits { CountsFit frame raster.now 0 (raster.now.rows * raster.now.cols) counts.old }
-    requires within { AreWithin 144115188075855872 (raster.now.rows * raster.now.cols) frame.depth
-        sums.old }
+    requires within { AreWithin (256 * S.reach) (raster.now.rows * raster.now.cols) frame.depth
+        (map S.number sums.old) }
     ensures counts { LaysMarks frame raster.now 0 (raster.now.rows * raster.now.cols)
         counts.old counts.new }
     ensures sums { LaysValues frame raster.now 0 (raster.now.rows * raster.now.cols)
-        (raster.now.rows * raster.now.cols) sums.old sums.new }
+        (raster.now.rows * raster.now.cols) (map S.number sums.old) (map S.number sums.new) }
 {
     let rows = raster.rows() as usize;
     for row in 0..rows {
@@ -350,42 +299,66 @@ fn lay_rows(raster: &Raster, frame: Frame, counts: &mut [u8], sums: &mut [i64])
     }
 }
 
+/// So many sums of no values.
+fn zero_list(alloc: Global, kind: PixelType, count: usize) -> Result<SumList, AllocError>
+    requires { count ≤ 16777216 }
+    ensures { IfOk result (λ sums. HasWidth kind sums × (listed sums ≡ replicate count (pos 0))) }
+{
+    match kind {
+        PixelType::I32 | PixelType::U32 => Ok(SumList::Wide(vec![in alloc; 0i64; count]?)),
+        _ => Ok(SumList::Narrow(vec![in alloc; 0i32; count]?)),
+    }
+}
+
 impl Layer {
-    /// The numbers of a band of which nothing was laid.
-    pub(crate) fn new(alloc: Global, places: usize, depth: usize) -> Result<Layer, AllocError>
+    /// The numbers of a band of this type of which nothing was laid.
+    pub(crate) fn new(
+        alloc: Global,
+        kind: PixelType,
+        places: usize,
+        depth: usize,
+    ) -> Result<Layer, AllocError>
         requires { places * depth ≤ 16777216 }
-        ensures { IfOk result (λ l. l ≡ zero_sums places depth) }
+        ensures { IfOk result (λ l. l ≡ zero_numbers kind places depth) }
     {
-        Ok(Layer {
-            counts: vec![in alloc; 0u8; places]?,
-            sums: vec![in alloc; 0i64; places * depth]?,
-        })
+        let counts = vec![in alloc; 0u8; places]?;
+        let sums = zero_list(alloc, kind, places * depth)?;
+        Ok(Layer { kind, counts, sums })
     }
 
-    /// How many pixels are valid of the four of each pixel of the half.
-    pub(crate) fn counts(&self) -> &[u8]
-        ensures { result.now ≡ self.now.counts }
-    {
-        self.counts.as_slice()
-    }
-
-    /// The sums of their values, the depths innermost.
-    pub(crate) fn sums(&self) -> &[i64]
-        ensures { result.now ≡ self.now.sums }
-    {
-        self.sums.as_slice()
-    }
-
-    /// Lays a raster.
+    /// Lays a raster of the band's type.
     pub(crate) fn lay(&mut self, raster: &Raster, frame: Frame)
-        requires { CanLay frame raster.now self.old }
-        ensures { LaysAll frame raster.now self.old self.new }
+        requires kind { self.old.kind ≡ raster.now.kind }
+        requires fits { CanLay frame raster.now self.old.sums }
+        ensures kind { self.new.kind ≡ self.old.kind }
+        ensures sums { LaysAll frame raster.now self.old.sums self.new.sums }
     {
-        lay_rows(
-            raster,
-            frame,
-            self.counts.as_mut_slice(),
-            self.sums.as_mut_slice(),
-        );
+        let counts = self.counts.as_mut_slice();
+        match &mut self.sums {
+            SumList::Narrow(sums) => lay_rows(raster, frame, counts, sums.as_mut_slice()),
+            SumList::Wide(sums) => lay_rows(raster, frame, counts, sums.as_mut_slice()),
+        }
+    }
+
+    /// The raster that has the means of the band's numbers.
+    pub(crate) fn half(
+        &self,
+        alloc: Global,
+        rows: u32,
+        cols: u32,
+        depth: u32,
+    ) -> Result<Raster, AllocError>
+        requires shape { IsShape rows cols depth }
+        requires means { HaveMeans self.now.kind (rows * cols) depth
+            self.now.sums.counts self.now.sums.sums }
+        ensures { IfOk result (λ r. HasMeans self.now.kind rows cols depth self.now.sums r) }
+    {
+        let counts = self.counts.as_slice();
+        let mut raster = counted_raster(alloc, self.kind, rows, cols, depth, counts)?;
+        match &self.sums {
+            SumList::Narrow(sums) => fill(&mut raster, counts, sums.as_slice()),
+            SumList::Wide(sums) => fill(&mut raster, counts, sums.as_slice()),
+        }
+        Ok(raster)
     }
 }

@@ -8,8 +8,9 @@
 mod halving;
 mod laws;
 mod layer;
-mod mean;
 mod mosaic;
+mod sum;
+mod values;
 
 pub use laws::half_is_one;
 pub use mosaic::Mosaic;

@@ -4,21 +4,22 @@ ghost use Rattle.std.specs.Prelude.{◌≡◌, ◌↔◌, ℕ, pos, true, false,
 ghost use Rattle.raster_cells.specs.Shapes.{IsShape};
 ghost use Rattle.raster_values.specs.Raster.{Pixels};
 ghost use Rattle.raster_values.specs.Bands.{AreBands};
-ghost use Rattle.overview_tiles.specs.Sums.{AreSums, IsLikeMosaic, IsTileOf, no_sums, zero_sums};
+ghost use Rattle.overview_tiles.specs.Sums.{AreSums, HasShape, IsLikeMosaic, IsTileOf, no_sums};
 ghost use Rattle.overview_tiles.specs.Tiles.{AreHalf, Tiles, no_tiles, with_tile};
 ghost use Rattle.overview_tiles.specs.inside.Lays.{CanLay, LaysAll};
 ghost use Rattle.overview_tiles.specs.inside.Means.{HasMeans, HaveMeans};
+ghost use Rattle.overview_tiles.specs.inside.Numbers.{kinds_of, sums_of, zero_numbers};
 
-use super::halving::half_band;
 use super::layer::{Frame, Layer};
-use raster_values::{Bands, PixelType};
+use raster_values::{Bands, PixelType, Raster};
 use std::alloc::{AllocError, Global};
 use std::marker::Model;
 
 /// The mosaic of four neighbouring tiles, the quarters, of one number of bands, one type and one
 /// shape: quarter 0 is the upper left one, 1 the upper right, 2 the lower left and 3 the lower
 /// right. Of the pixels of each two rows and two columns it keeps how many are valid and the sums
-/// of their values, nine bytes for a value of the half at most.
+/// of their values, at most nine bytes for a value of the half, and five where values have at most
+/// 16 bits.
 #[derive(Drop)]
 pub struct Mosaic {
     kind: PixelType,
@@ -41,19 +42,21 @@ impl Model for Mosaic {
     ghost invariant = { IsMosaic };
 }
 
-/// The numbers of so many bands, into which nothing was laid.
+/// The numbers of so many bands of a type, into which nothing was laid.
 fn new_layers(
     alloc: Global,
+    kind: PixelType,
     count: usize,
     places: usize,
     depth: usize,
 ) -> Result<Vec<Layer>, AllocError>
     requires { places * depth ≤ 16777216 }
-    ensures { IfOk result (λ layers. layers.items ≡ replicate count (zero_sums places depth)) }
+    ensures { IfOk result
+        (λ layers. layers.items ≡ replicate count (zero_numbers kind places depth)) }
 {
     let mut layers = Vec::with_capacity(alloc, count)?;
     for _ in 0..count {
-        layers.push(Layer::new(alloc, places, depth)?)?;
+        layers.push(Layer::new(alloc, kind, places, depth)?)?;
     }
     Ok(layers)
 }
@@ -83,10 +86,14 @@ fn frame_of(rows: u32, cols: u32, depth: u32, quarter: u8) -> Frame
 /// Lays the bands of a tile.
 fn lay_bands(layers: &mut [Layer], tile: &Bands, frame: Frame)
     requires count { length tile.now ≡ length layers.old }
+    requires kinds { (b : ℕ) (r : Pixels) → slice_get tile.now b ≡ Some r
+        → slice_get (kinds_of layers.old) b ≡ Some r.kind }
     requires each { (b : ℕ) (r : Pixels) → slice_get tile.now b ≡ Some r
-        → CanLay frame r (get_or layers.old b no_sums) }
-    ensures { (b : ℕ) (r : Pixels) → slice_get tile.now b ≡ Some r
-        → LaysAll frame r (get_or layers.old b no_sums) (get_or layers.new b no_sums) }
+        → CanLay frame r (get_or (sums_of layers.old) b no_sums) }
+    ensures kinds { kinds_of layers.new ≡ kinds_of layers.old }
+    ensures each { (b : ℕ) (r : Pixels) → slice_get tile.now b ≡ Some r
+        → LaysAll frame r (get_or (sums_of layers.old) b no_sums)
+        (get_or (sums_of layers.new) b no_sums) }
 {
     for b in 0..layers.len() {
         let layer = &mut layers[b];
@@ -107,16 +114,18 @@ fn half_bands(
     requires some { 0 < length layers.now }
     requires few { length layers.now ≤ 16 }
     requires size { length layers.now * (rows * cols * depth) ≤ 16777216 }
+    requires kinds { kinds_of layers.now ≡ replicate (length layers.now) kind }
     requires means { (b : ℕ) → b < length layers.now → HaveMeans kind (rows * cols) depth
-        (get_or layers.now b no_sums).counts (get_or layers.now b no_sums).sums }
+        (get_or (sums_of layers.now) b no_sums).counts
+        (get_or (sums_of layers.now) b no_sums).sums }
     ensures { IfOk result (λ half. AreBands half × ((length half ≡ length layers.now)
         × ((b : ℕ) (r : Pixels) → slice_get half b ≡ Some r
-        → HasMeans kind rows cols depth (get_or layers.now b no_sums) r))) }
+        → HasMeans kind rows cols depth (get_or (sums_of layers.now) b no_sums) r))) }
 {
-    let first = half_band(alloc, kind, rows, cols, depth, &layers[0])?;
+    let first = layers[0].half(alloc, rows, cols, depth)?;
     let mut half = Bands::of(alloc, first)?;
     for b in 1..layers.len() {
-        let band = half_band(alloc, kind, rows, cols, depth, &layers[b])?;
+        let band = layers[b].half(alloc, rows, cols, depth)?;
         half.push(band)?;
     }
     Ok(half)
@@ -134,9 +143,10 @@ impl Mosaic {
         let cols = first.cols();
         let depth = first.depth();
         let places = rows as usize * cols as usize;
-        let bands = new_layers(alloc, count, places, depth as usize)?;
+        let kind = first.kind();
+        let bands = new_layers(alloc, kind, count, places, depth as usize)?;
         Ok(Mosaic {
-            kind: first.kind(),
+            kind,
             rows,
             cols,
             depth,
@@ -153,18 +163,21 @@ impl Mosaic {
         self.laid[quarter as usize]
     }
 
+    /// Whether the raster has the mosaic's type and its shape.
+    fn has_shape(&self, band: &Raster) -> bool
+        ensures { IsTrue result ↔ HasShape self.now band.now }
+    {
+        band.kind() == self.kind
+            && band.rows() == self.rows
+            && band.cols() == self.cols
+            && band.depth() == self.depth
+    }
+
     /// Whether the tile has the mosaic's number of bands, its type and its shape.
     pub fn takes(&self, tile: &Bands) -> bool
         ensures { IsTrue result ↔ IsTileOf self.now tile.now }
     {
-        if tile.len() != self.bands.len() {
-            return false;
-        }
-        let first = tile.at(0);
-        first.kind() == self.kind
-            && first.rows() == self.rows
-            && first.cols() == self.cols
-            && first.depth() == self.depth
+        tile.len() == self.bands.len() && self.has_shape(tile.at(0))
     }
 
     /// Lays a tile into a quarter that has none. It takes no memory.

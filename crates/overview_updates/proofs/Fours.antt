@@ -1,6 +1,6 @@
 -- What the four tiles of a place, read and laid, say of it.
-use Rattle.std.proofs.Common.{◌≡◌, ◌⊎◌, inl, inr, ℕ, zero, suc, ◌<◌, Bool, true, false, List, Option, Some, None, refl, sym, ap, subst, ◌∙◌, arith}
-use Rattle.std.specs.Prelude.{◌/◌, ◌%◌, IfOk, Result, is_some, get_or, take, drop, ◌||◌, ◌==◌, if◌then◌else◌}
+use Rattle.std.proofs.Common.{◌≡◌, ◌⊎◌, inl, inr, ℕ, zero, suc, ◌<◌, Bool, true, false, List, Option, Some, None, refl, sym, ap, subst, ◌∙◌, arith, ⊎_elim}
+use Rattle.std.specs.Prelude.{◌/◌, ◌%◌, is_some, get_or, take, drop, ◌||◌, ◌==◌, if◌then◌else◌}
 use Rattle.std.proofs.lemmas.Bool.{cases_Bool, cases_lt, eqb-true, lt-ltb}
 use Rattle.std.proofs.lemmas.Option.{none-some}
 use Rattle.raster_values.specs.Raster.{Pixels}
@@ -12,13 +12,13 @@ use Rattle.bundle_store.specs.Tiles.{TileMap, tile_in, tiles}
 use Rattle.overview_tiles.specs.Sums.{AreSums, Kept}
 use Rattle.overview_tiles.specs.Tiles.{AreHalf, Tiles}
 use Rattle.overview_updates.specs.inside.Laid.{IsFirstLaid, IsRead}
-use Rattle.overview_updates.specs.Overview.{IsQuarter, has_quarter, place_of, quarter_slot}
+use Rattle.overview_updates.specs.Overview.{IsQuarter, has_quarter, quarter_slot}
 use Rattle.overview_updates.specs.Refusals.{FourStops, IsFirstQuarter, IsTooDeep, PlaceStops, QuarterStops, ReadFails}
 use Rattle.overview_updates.specs.declared.stop.OverviewStop.{OverviewStop}
 use Rattle.overview_updates.specs.declared.stop.OverviewStop.TheVariants.{Beyond, BadTile, Unlike, DepthNeedsV4, TileTooLarge, KeptTooMuch, Volume, OutOfMemory}
-use Rattle.overview_updates.specs.declared.places.Next.{Next}
-use Rattle.overview_updates.specs.declared.places.Waiting.{Waiting}
-use Rattle.overview_updates.specs.inside.SoFar.{Follows, IsHalfOf, waits_of}
+use Rattle.overview_updates.specs.declared.halves.Half.TheVariants.{Refused}
+use Rattle.overview_updates.specs.inside.Fours.{HalfFits, HalfSays, LayFails, StopsAt}
+use Rattle.overview_updates.specs.inside.SoFar.{IsHalfOf}
 
 -- ---- one of the four
 
@@ -188,22 +188,26 @@ refused_there bundle v a b (KeptTooMuch at) row col fails well room stops = absu
 refused_there bundle v a b Volume row col fails well room stops = absurd (well refl)
 refused_there bundle v a b OutOfMemory row col fails well room stops = absurd (room refl)
 
--- ---- a stop of reading that waits
+-- ---- a refusal that waits
 
--- it is of a place with a coarse tile
-pub waits_follow : (bundle : List ℕ) (quarter : ℕ) (v : Version) (before after : Waiting) (stop : OverviewStop) (r : Result Next OverviewStop) → r ≡ waits_of stop → before.place < 4096 → ReadFails stop → PlaceStops bundle v (place_of before.place) stop
-    → IfOk r (λ next. Follows bundle quarter v before after next)
-waits_follow bundle quarter v before after stop r is below fails stops =
-    let row : before.place / 64 < 64 = omega (arith, below) in
-    let col : before.place % 64 < 64 = omega arith in
-    subst (λ (u : Result Next OverviewStop). IfOk u (λ next. Follows bundle quarter v before after next)) (sym is) (by stop row col fails stops)
-  where
-    by : (s : OverviewStop) → before.place / 64 < 64 → before.place % 64 < 64 → ReadFails s → PlaceStops bundle v (place_of before.place) s → IfOk (waits_of s) (λ next. Follows bundle quarter v before after next)
-    by (Beyond slot entry got) row col f p = (refused_there bundle v (before.place / 64) (before.place % 64) (Beyond slot entry got) row col f (λ e. let no : ⊥ = cc in no) (λ e. let no : ⊥ = cc in no) p, p)
-    by (BadTile slot fault) row col f p = (refused_there bundle v (before.place / 64) (before.place % 64) (BadTile slot fault) row col f (λ e. let no : ⊥ = cc in no) (λ e. let no : ⊥ = cc in no) p, p)
-    by (Unlike slot) row col f p = (refused_there bundle v (before.place / 64) (before.place % 64) (Unlike slot) row col f (λ e. let no : ⊥ = cc in no) (λ e. let no : ⊥ = cc in no) p, p)
-    by (DepthNeedsV4 slot) row col f p = (refused_there bundle v (before.place / 64) (before.place % 64) (DepthNeedsV4 slot) row col f (λ e. let no : ⊥ = cc in no) (λ e. let no : ⊥ = cc in no) p, p)
-    by (TileTooLarge at len) row col f p = absurd f
-    by (KeptTooMuch at) row col f p = absurd f
-    by Volume row col f p = tt
-    by OutOfMemory row col f p = tt
+reads_fail : (stop : OverviewStop) → LayFails stop → ReadFails stop
+reads_fail (Beyond slot entry got) f = f
+reads_fail (BadTile slot fault) f = tt
+reads_fail (Unlike slot) f = tt
+reads_fail (DepthNeedsV4 slot) f = tt
+reads_fail (TileTooLarge at len) f = absurd f
+reads_fail (KeptTooMuch at) f = absurd f
+reads_fail Volume f = tt
+reads_fail OutOfMemory f = tt
+
+-- why tiles were not laid is no failure of the volume
+pub refusal_fits : (v : Version) (stop : OverviewStop) → LayFails stop → (stop ≡ OutOfMemory → ⊥) → HalfFits v (Refused stop)
+refusal_fits v stop fails room = (reads_fail stop fails, λ once. ⊎_elim (λ (is : stop ≡ Volume). subst LayFails is fails) room once)
+
+pub refusal_says : (bundle : List ℕ) (v : Version) (k : ℕ) (stop : OverviewStop) → k < 4096 → LayFails stop → (stop ≡ OutOfMemory → ⊥) → StopsAt bundle k stop → HalfSays bundle v k (Refused stop)
+refusal_says bundle v k stop below fails room stops =
+    let row : k / 64 < 64 = omega (arith, below) in
+    let col : k % 64 < 64 = omega arith in
+    let reads = reads_fail stop fails in
+    let is = place_stops bundle v (k / 64) (k % 64) stop reads stops in
+    (refused_there bundle v (k / 64) (k % 64) stop row col reads (λ (is : stop ≡ Volume). subst LayFails is fails) room is, is)

@@ -3,6 +3,7 @@ pub mod Still
 pub mod Zips
 pub mod CoarsePlaces
 pub mod Fours
+pub mod Rounds
 pub mod SoFar
 pub mod Refusing
 pub mod OneAnswer

@@ -1,11 +1,8 @@
 -- One tile of the four more.
-use Rattle.std.proofs.Common.{◌≡◌, ◌≢◌, ℕ, ◌+◌, ◌<◌, Bool, IsTrue, cond, List, [], ◌∷◌, length, Option, Some, None, refl, sym, ap, ◌∙◌, subst, arith, ⊎_elim}
+use Rattle.std.proofs.Common.{◌≡◌, ◌≢◌, ℕ, ◌+◌, ◌<◌, cond, List, [], ◌∷◌, length, Option, Some, None, refl, sym, ap, ◌∙◌, subst, arith, ⊎_elim}
 use Rattle.std.specs.Prelude.{All, IfSome}
 use Rattle.std.proofs.lemmas.Bool.{cases_eq, eq-eqb, ne_eqb}
 use Rattle.std.proofs.lemmas.Option.{none-some}
-use Rattle.outside_io.specs.declared.volume.VolFile.TheVariants.{Bundle}
-use Rattle.outside_io.specs.volume.History.{History, contents, current}
-use Rattle.outside_io.proofs.VolumeLemmas.Moments.{started}
 use Rattle.raster_values.specs.Raster.{Pixels}
 use Rattle.raster_values.specs.Places.{SameShape}
 use Rattle.raster_values.specs.Bands.{AreBands}
@@ -15,7 +12,6 @@ use Rattle.overview_tiles.specs.Tiles.{Tiles, no_tiles, with_tile}
 use Rattle.overview_updates.specs.inside.Laid.{HasSome, HasTiles, IsRead}
 use Rattle.overview_updates.specs.Overview.{AreFirst, AreRead, IsQuarter, LiesWhole, quarter_slot}
 use Rattle.overview_updates.specs.Refusals.{AreAllOne, IsUnlike}
-use Rattle.overview_updates.proofs.Still.{Stays, still_contents, still_join}
 
 there : (q : ℕ) (tile : List Pixels) (tiles : Tiles) → with_tile q tile tiles q ≡ Some tile
 there q tile tiles = ap (λ b. cond b (Some tile) (tiles q)) (eq-eqb q q refl)
@@ -96,39 +92,13 @@ all_one (Some m) tiles h = λ p q first other there is.
           record { kind = x.kind ∙ sym y.kind; rows = x.rows ∙ sym y.rows; cols = x.cols ∙ sym y.cols; depth = x.depth ∙ sym y.depth },
     )
 
--- ---- one call more
+-- ---- at the start
 
-pub none_read : (bundle : List ℕ) (a b : ℕ) → AreRead bundle a b 0 no_tiles
+none_read : (bundle : List ℕ) (a b : ℕ) → AreRead bundle a b 0 no_tiles
 none_read bundle a b = record {
   first = record { each = λ q less. absurd (let no : ⊥ = omega (arith, less) in no); past = λ q low. refl };
   whole = λ q less. absurd (let no : ⊥ = omega (arith, less) in no);
 }
 
--- Since a call began the volume's files have stayed, and the first n of the four were read.
-pub record FourSoFar (told now : Bool) (old mid : History) (a b n : ℕ) (mosaic : Option Kept) : Type 0 where
-  pub same : now ≡ told
-  pub stays : IsTrue told → Stays old mid
-  pub read : IsTrue told → IsRead (contents Bundle old) a b n mosaic
-
-pub none_so_far : (told : Bool) (h : History) (a b : ℕ) → FourSoFar told told h h a b 0 None
-none_so_far told h a b = record {
-  same = refl;
-  stays = λ tells. started (λ d. d ≡ current h) h refl;
-  read = λ tells. record { tiles = no_tiles; read = none_read (contents Bundle h) a b; has = λ q. refl };
-}
-
--- what the next call says of the bundle that it found is said of it as it was at first
-pub says_on : (told now : Bool) (old mid : History) (a b n : ℕ) (mosaic : Option Kept) (P : List ℕ → Type 0) → FourSoFar told now old mid a b n mosaic → IsTrue told
-    → (IsTrue now → (before : Tiles) → AreRead (contents Bundle mid) a b n before → HasTiles mosaic before → P (contents Bundle mid)) → P (contents Bundle old)
-says_on told now old mid a b n mosaic P s tells says =
-    let r = s.read tells in
-    let same = still_contents old mid (s.stays tells) in
-    subst P same (says (s.same ∙ tells) r.tiles (subst (λ (u : List ℕ). AreRead u a b n r.tiles) (sym same) r.read) r.has)
-
-pub more_so_far : (told now later : Bool) (old mid new : History) (a b n : ℕ) (mosaic next : Option Kept) → FourSoFar told now old mid a b n mosaic → later ≡ now → (IsTrue now → Stays mid new)
-    → (IsTrue now → (before : Tiles) → AreRead (contents Bundle mid) a b n before → HasTiles mosaic before → IsRead (contents Bundle mid) a b (n + 1) next) → FourSoFar told later old new a b (n + 1) next
-more_so_far told now later old mid new a b n mosaic next s is stays says = record {
-  same = is ∙ s.same;
-  stays = λ tells. still_join old mid new (s.stays tells) (stays (s.same ∙ tells));
-  read = λ tells. says_on told now old mid a b n mosaic (λ (u : List ℕ). IsRead u a b (n + 1) next) s tells says;
-}
+pub none_at : (bundle : List ℕ) (a b : ℕ) → IsRead bundle a b 0 None
+none_at bundle a b = record { tiles = no_tiles; read = none_read bundle a b; has = λ q. refl }

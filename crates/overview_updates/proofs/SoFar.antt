@@ -1,9 +1,9 @@
 -- What was made of the coarse tiles of the first places.
-use Rattle.std.proofs.Common.{◌≡◌, ℕ, ◌+◌, ◌<◌, ◌≤◌, Bool, IsTrue, List, [], ◌++◌, length, sym, ap, ◌∙◌, subst, arith, length-append}
+use Rattle.std.proofs.Common.{◌≡◌, inl, inr, ℕ, ◌+◌, ◌<◌, ◌≤◌, Bool, true, IsTrue, List, [], ◌∷◌, ◌++◌, length, sym, ap, ◌∙◌, subst, arith, length-append}
 use Rattle.std.specs.Prelude.{All}
 use Rattle.std.specs.List.{AllZip}
 use Rattle.std.proofs.lemmas.List.{length-map}
-use Rattle.std.proofs.lemmas.List.Elements.{All-nil, All-append}
+use Rattle.std.proofs.lemmas.List.Elements.{All-nil, All-append, All-push}
 use Rattle.lerc_header.specs.declared.header.Version.{Version}
 use Rattle.lerc_encode.specs.Encoded.{AreEncodedOnce, BandsNeedV4}
 use Rattle.bundle_store.specs.declared.tile_rec.TileRec.{TileRec}
@@ -14,12 +14,17 @@ use Rattle.tile_updates.specs.Adding.{MayBeAdded}
 use Rattle.tile_updates.specs.Updates.{AreEncoded, tile_bytes, update_of, updates_of}
 use Rattle.tile_updates.proofs.Passing.{none_pass}
 use Rattle.tile_updates.proofs.SoFar.{all_fit_of, pass_join, updates_join}
-use Rattle.overview_updates.specs.Overview.{IsCoarse, first_places}
+use Rattle.overview_updates.specs.Overview.{IsCoarse, coarse_slot, first_places, has_quarter, place_of}
+use Rattle.overview_updates.specs.Refusals.{PlaceStops}
 use Rattle.overview_updates.specs.Updates.{IsEncodedOverview, IsOverviewUpdates}
-use Rattle.overview_updates.specs.declared.places.Next.TheVariants.{More}
+use Rattle.overview_updates.specs.declared.halves.Half.TheVariants.{Nothing, Coarse, Refused as HalfRefused}
+use Rattle.overview_updates.specs.declared.places.Next.{Next}
+use Rattle.overview_updates.specs.declared.places.Next.TheVariants.{More, Refused}
 use Rattle.overview_updates.specs.declared.places.Waiting.{Waiting}
+use Rattle.overview_updates.specs.declared.stop.OverviewStop.{OverviewStop}
 use Rattle.overview_updates.specs.declared.updates.SoFar.{SoFar}
-use Rattle.overview_updates.specs.inside.SoFar.{AreBetween, AreWaiting, IsSoFar, Steps, TakesPlace}
+use Rattle.overview_updates.specs.inside.Fours.{IsHalfAt}
+use Rattle.overview_updates.specs.inside.SoFar.{AreBetween, AreWaiting, EndsSo, IsFilled, IsSoFar, TakesPlace}
 use Rattle.overview_updates.proofs.CoarsePlaces.{more_between, no_places, none_between}
 use Rattle.overview_updates.proofs.Zips.{zip_join}
 
@@ -50,13 +55,82 @@ none_wait told bundle quarter v from w empty is low =
     }
 
 -- one place more
-pub one_more : (told : Bool) (bundle : List ℕ) (quarter : ℕ) (v : Version) (from : ℕ) (before after : Waiting) → before.place < 4096 → AreWaiting told bundle quarter v from before → Steps v before after More
-    → (IsTrue told → TakesPlace bundle quarter before.place before.batch after.batch) → AreWaiting told bundle quarter v from after
-one_more told bundle quarter v from before after below w steps takes = record {
-  between = λ tells. more_between bundle quarter from before.place after.place before.batch after.batch steps.0 (w.between tells) (takes tells);
-  few = omega (arith, w.few, steps.0, steps.1.0);
-  within = omega (arith, steps.0, below);
-  flat = steps.1.1 w.flat;
+pub one_more : (told : Bool) (bundle : List ℕ) (quarter : ℕ) (v : Version) (from : ℕ) (before after : Waiting) → before.place < 4096 → AreWaiting told bundle quarter v from before → after.place ≡ before.place + 1
+    → length after.batch ≤ length before.batch + 1 → All (λ t. ¬ BandsNeedV4 v t.bands) after.batch → (IsTrue told → TakesPlace bundle quarter before.place before.batch after.batch) → AreWaiting told bundle quarter v from after
+one_more told bundle quarter v from before after below w place longer flat takes = record {
+  between = λ tells. more_between bundle quarter from before.place after.place before.batch after.batch place (w.between tells) (takes tells);
+  few = omega (arith, w.few, place, longer);
+  within = omega (arith, place, below);
+  flat = flat;
+}
+
+-- the place has no half
+pub none_waits : (told : Bool) (bundle : List ℕ) (quarter : ℕ) (v : Version) (from : ℕ) (before after : Waiting) → before.place < 4096 → AreWaiting told bundle quarter v from before → after.place ≡ before.place + 1 → after.batch ≡ before.batch
+    → IsHalfAt told bundle v before.place Nothing → IsFilled told bundle quarter v from after More
+none_waits told bundle quarter v from before after below w place same half =
+    let longer : length after.batch ≡ length before.batch = ap length same in
+    record {
+      waiting = one_more told bundle quarter v from before after below w place (omega (arith, longer)) (subst (All (λ t. ¬ BandsNeedV4 v t.bands)) (sym same) w.flat) (λ tells. inl (half.says tells, same));
+      ends = omega (arith, place, w.few);
+    }
+
+-- its half waits behind the others
+pub half_waits : (told : Bool) (bundle : List ℕ) (quarter : ℕ) (v : Version) (from : ℕ) (before after : Waiting) (tile : Tile) → before.place < 4096 → AreWaiting told bundle quarter v from before → after.place ≡ before.place + 1
+    → after.batch ≡ before.batch ++ tile ∷ [] → tile.slot ≡ coarse_slot quarter (place_of before.place).0 (place_of before.place).1 → IsHalfAt told bundle v before.place (Coarse tile.bands) → IsFilled told bundle quarter v from after More
+half_waits told bundle quarter v from before after tile below w place pushed slot half =
+    let longer : length after.batch ≡ length before.batch + 1 = ap length pushed ∙ length-append before.batch (tile ∷ []) in
+    let takes : IsTrue told → TakesPlace bundle quarter before.place before.batch after.batch = λ tells.
+    let says = half.says tells in
+    let four = says.1.0 in
+    let coarse : IsCoarse bundle quarter (place_of before.place) tile = record { four = four; quarters = says.1.1.0; slot = slot; half = says.1.1.1 } in
+    inr (says.0, (tile, (coarse, pushed))) in
+    record {
+      waiting = one_more told bundle quarter v from before after below w place (omega (arith, longer)) (subst (All (λ t. ¬ BandsNeedV4 v t.bands)) (sym pushed) (All-push (λ t. ¬ BandsNeedV4 v t.bands) before.batch tile w.flat half.fits)) takes;
+      ends = omega (arith, place, w.few);
+    }
+
+-- it is refused
+pub refused_waits : (told : Bool) (bundle : List ℕ) (quarter : ℕ) (v : Version) (from : ℕ) (w : Waiting) (stop : OverviewStop) → w.place < 4096 → AreWaiting told bundle quarter v from w → IsHalfAt told bundle v w.place (HalfRefused stop)
+    → IsFilled told bundle quarter v from w (Refused stop)
+refused_waits told bundle quarter v from w stop below waiting half = record { waiting = waiting; ends = (below, (half.fits.0, (half.fits.1, half.says))) }
+
+-- at least one place was read
+pub read_on : (told : Bool) (bundle : List ℕ) (quarter : ℕ) (v : Version) (from : ℕ) (before after : Waiting) → AreWaiting told bundle quarter v from before → before.place < after.place → AreWaiting told bundle quarter v from after
+    → IsFilled told bundle quarter v from after More
+read_on told bundle quarter v from before after first further waiting = record { waiting = waiting; ends = omega (arith, first.few, further) }
+
+-- ---- the same, of what stands later
+
+pub waiting_as : (told told' : Bool) (bundle bundle' : List ℕ) (quarter : ℕ) (v : Version) (from : ℕ) (w : Waiting) → told' ≡ told → (IsTrue told → bundle' ≡ bundle) → AreWaiting told bundle quarter v from w → AreWaiting told' bundle' quarter v from w
+waiting_as told told' bundle bundle' quarter v from w tells same are = record {
+  between = λ is.
+      let told_is = sym tells ∙ is in
+      subst (λ (b : List ℕ). AreBetween b quarter from w.place w.batch) (sym (same told_is)) (are.between told_is);
+  few = are.few;
+  within = are.within;
+  flat = are.flat;
+}
+
+ends_as : (told told' : Bool) (bundle bundle' : List ℕ) (v : Version) (from : ℕ) (w : Waiting) (next : Next) → told' ≡ told → (IsTrue told → bundle' ≡ bundle) → EndsSo told bundle v from w next → EndsSo told' bundle' v from w next
+ends_as told told' bundle bundle' v from w More tells same ends = ends
+ends_as told told' bundle bundle' v from w (Refused stop) tells same ends = (
+  ends.0,
+  (
+    ends.1.0,
+    (
+      ends.1.1.0,
+      λ is.
+          let told_is = sym tells ∙ is in
+          subst (λ (b : List ℕ). (has_quarter (tiles b) (place_of w.place).0 (place_of w.place).1 ≡ true) × PlaceStops b v (place_of w.place) stop) (sym (same told_is)) (ends.1.1.1 told_is),
+    ),
+  ),
+)
+
+pub filled_as : (told told' : Bool) (bundle bundle' : List ℕ) (quarter : ℕ) (v : Version) (from : ℕ) (w : Waiting) (next : Next) → told' ≡ told → (IsTrue told → bundle' ≡ bundle) → IsFilled told bundle quarter v from w next
+    → IsFilled told' bundle' quarter v from w next
+filled_as told told' bundle bundle' quarter v from w next tells same f = record {
+  waiting = waiting_as told told' bundle bundle' quarter v from w tells same f.waiting;
+  ends = ends_as told told' bundle bundle' v from w next tells same f.ends;
 }
 
 -- ---- a batch more

@@ -1,12 +1,32 @@
 -- Lists whose elements go together, place by place.
-use Rattle.std.proofs.Common.{◌≡◌, List, [], ◌∷◌, ◌++◌, refl}
+use Rattle.std.proofs.Common.{◌≡◌, ℕ, suc, ◌+◌, ◌<◌, List, [], ◌∷◌, ◌++◌, length, get_or, take, drop, refl, sym, ap, subst, ◌∙◌}
 use Rattle.std.specs.List.{AllZip}
+use Rattle.std.proofs.lemmas.List.{take-append-drop, take_more}
 
 pub zip_join : {A B : Type 0} (R : A → B → Type 0) (xs zs : List A) (ys ws : List B) → AllZip R xs ys → AllZip R zs ws → AllZip R (xs ++ zs) (ys ++ ws)
 zip_join R [] zs [] ws one two = two
 zip_join R [] zs (y ∷ ys) ws one two = absurd one
 zip_join R (x ∷ xs) zs [] ws one two = absurd one
 zip_join R (x ∷ xs) zs (y ∷ ys) ws one two = (one.0, zip_join R xs zs ys ws one.1 two)
+
+-- the element at a place, and what goes with it
+pub zip_more : {A B : Type 0} (R : A → B → Type 0) (xs : List A) (i : ℕ) (x : A) (ys out : List B) → i < length xs → x ≡ get_or xs i x → AllZip R (take i xs) ys
+    → (y : B) × (R x y × (out ≡ ys ++ y ∷ [])) → AllZip R (take (i + 1) xs) out
+zip_more R xs i x ys out below is all (y, (r, pushed)) =
+    subst (λ l. AllZip R l out) (sym (take_more xs i x below))
+    (subst (AllZip R (take i xs ++ get_or xs i x ∷ [])) (sym pushed) (zip_join R (take i xs) (get_or xs i x ∷ []) ys (y ∷ []) all (subst (λ a. R a y) is r, tt)))
+
+-- the two parts of a list
+pub zip_halves : {A B : Type 0} (R : A → B → Type 0) (xs front back : List A) (n : ℕ) (ys ws : List B) → front ≡ take n xs → back ≡ drop n xs → AllZip R front ys → AllZip R back ws → AllZip R xs (ys ++ ws)
+zip_halves R xs front back n ys ws f b one two =
+    let joined : front ++ back ≡ xs = (λ k. f k ++ b k) ∙ take-append-drop n xs in
+    subst (λ l. AllZip R l (ys ++ ws)) joined (zip_join R front back ys ws one two)
+
+pub zip_length : {A B : Type 0} (R : A → B → Type 0) (xs : List A) (ys : List B) → AllZip R xs ys → length xs ≡ length ys
+zip_length R [] [] all = refl
+zip_length R [] (y ∷ ys) all = absurd all
+zip_length R (x ∷ xs) [] all = absurd all
+zip_length R (x ∷ xs) (y ∷ ys) all = ap (λ n. suc n) (zip_length R xs ys all.1)
 
 -- of lists that go together, what goes with the first ones of the second, and with the next one
 pub record Divided {A B : Type 0} (R : A → B → Type 0) (xs : List A) (front : List B) (y : B) : Type 0 where

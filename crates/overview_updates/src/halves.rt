@@ -1,58 +1,120 @@
-//! Half of the four tiles of a coarse place.
+//! Halves of the four tiles of coarse places, made by several workers at once.
 
-ghost use Rattle.std.specs.Prelude.{◌≡◌, ◌<◌, Err, IfErr, IfOk, IfSome, IsTrue};
-ghost use Rattle.outside_io.specs.declared.volume.VolFile.TheVariants.{Bundle};
-ghost use Rattle.outside_io.specs.streams.Faults.{IsCause};
-ghost use Rattle.outside_io.specs.volume.History.{contents};
-ghost use Rattle.lerc_encode.specs.Encoded.{BandsNeedV4};
-ghost use Rattle.overview_updates.specs.Refusals.{PlaceStops, ReadFails};
-ghost use Rattle.overview_updates.specs.inside.SoFar.{IsHalfOf};
-ghost use Rattle.bundle_store.specs.Told.{OnlyReads};
-ghost use Rattle.bundle_store.specs.Serving.{Serving};
+ghost use Rattle.std.specs.Prelude.{◌≡◌, ℕ, ◌<◌, ◌≤◌, ◌++◌, ◌∷◌, [], All, IfOk, List, OnOk, length};
+ghost use Rattle.std.specs.List.{AllZip};
+ghost use Rattle.std.specs.Thread.{IsSync};
+ghost use Rattle.overview_updates.specs.inside.Fours.{HalfFits, HalfSays, IsFour, IsHalved, IsReadable};
 
-use crate::quarters::{first_laid, read_four, slot_of};
+use crate::quarters::{Four, first_laid, lay_four, slot_of};
 use crate::stop::OverviewStop;
-use bundle_store::Session;
 use lerc_header::Version;
-use outside_io::Volume;
 use raster_values::Bands;
-use std::alloc::Global;
+use std::alloc::{AllocError, Global};
+use std::thread::{Threads, join};
 use tile_workers::bands_need_v4;
 
-/// Half of the four tiles of a coarse place, or None where none of them is there. It is refused
-/// where the version has no place for its depths, which are those of the four.
-pub(crate) fn read_half<V: Volume>(
-    alloc: Global,
-    session: &Session,
-    vol: &mut V,
-    version: Version,
-    row: u8,
-    col: u8,
-) -> Result<Option<Bands>, OverviewStop>
-    requires row { row < 64 }
-    requires col { col < 64 }
-    requires serving { Serving V.told V.history session.now vol.old }
-    ensures half { IsTrue (V.told vol.old) → IfOk result (λ half. IsHalfOf
-        (contents Bundle (V.history vol.old)) row col half) }
-    ensures flat { IfOk result (λ half. IfSome half (λ bands. ¬ BandsNeedV4 version bands)) }
-    ensures refused { IsTrue (V.told vol.old) → IfErr result (λ stop. PlaceStops
-        (contents Bundle (V.history vol.old)) version (row, col) stop) }
-    ensures answers { IfErr result (λ stop. ReadFails stop) }
-    ensures reads { OnlyReads V.told V.history V.faults
-        (IsCause (result ≡ Err OverviewStop.Volume)) vol.old vol.new }
+/// What the four tiles of a coarse place come to.
+#[derive(Drop)]
+pub(crate) enum Half {
+    /// None of them is there.
+    Nothing,
+    /// Their half.
+    Coarse(Bands),
+    /// One of them is refused, or their half is.
+    Refused(OverviewStop),
+}
+
+/// Half of the four tiles of a coarse place. It is refused where the version has no place for its
+/// depths, which are those of the four.
+fn half_of(alloc: Global, four: &Four, version: Version) -> Result<Half, AllocError>
+    requires { IsReadable four.now }
+    ensures says { (bundle : List ℕ) → IsFour bundle four.now
+        → IfOk result (λ half. HalfSays bundle version four.now.place half) }
+    ensures fits { IfOk result (λ half. HalfFits version half) }
 {
-    let mosaic = match read_four(alloc, session, vol, row, col) {
+    let mosaic = match lay_four(alloc, four) {
         Ok(Some(mosaic)) => mosaic,
-        Ok(None) => return Ok(None),
-        Err(stop) => return Err(stop),
+        Ok(None) => return Ok(Half::Nothing),
+        Err(stop) => {
+            return match stop {
+                OverviewStop::OutOfMemory => Err(AllocError),
+                _ => Ok(Half::Refused(stop)),
+            };
+        }
     };
-    let slot = slot_of(row, col, first_laid(&mosaic));
-    let half = match mosaic.half(alloc) {
-        Ok(half) => half,
-        Err(_) => return Err(OverviewStop::OutOfMemory),
-    };
+    let slot = slot_of(four.place, first_laid(&mosaic));
+    let half = mosaic.half(alloc)?;
     if bands_need_v4(version, &half) {
-        return Err(OverviewStop::DepthNeedsV4 { slot });
+        return Ok(Half::Refused(OverviewStop::DepthNeedsV4 { slot }));
     }
-    Ok(Some(half))
+    Ok(Half::Coarse(half))
+}
+
+/// Adds the half of the next place.
+fn add_half(
+    alloc: Global,
+    halves: &mut Vec<Half>,
+    four: &Four,
+    version: Version,
+) -> Result<(), AllocError>
+    requires { IsReadable four.now }
+    ensures { OnOk result ((next : Half)
+        × (IsHalved version four.now next × (halves.new.items ≡ halves.old.items ++ next ∷ []))) }
+{
+    let next = half_of(alloc, four, version)?;
+    halves.push(next)?;
+    Ok(())
+}
+
+/// The halves of a run of coarse places, made one after the other.
+fn halve_run(alloc: Global, fours: &[Four], version: Version) -> Result<Vec<Half>, AllocError>
+    requires { All IsReadable fours.now }
+    ensures { IfOk result (λ halves. AllZip (IsHalved version) fours.now halves.items) }
+{
+    let mut halves = Vec::new(alloc);
+    for four in fours.iter() {
+        add_half(alloc, &mut halves, four, version)?;
+    }
+    Ok(halves)
+}
+
+/// The halves of a run of coarse places, made by so many workers: half of them take the front half.
+pub(crate) fn halve<R: Threads + Sync>(
+    rt: &R,
+    alloc: Global,
+    fours: &[Four],
+    version: Version,
+    workers: usize,
+) -> Result<Vec<Half>, AllocError>
+    requires workers { (1 ≤ workers) × (workers ≤ 64) }
+    requires few { length fours.now ≤ 4096 }
+    requires readable { All IsReadable fours.now }
+    ensures { IfOk result (λ halves. AllZip (IsHalved version) fours.now halves.items) }
+{
+    if workers == 1 || fours.len() < 2 {
+        return halve_run(alloc, fours, version);
+    }
+    let low = workers / 2;
+    let high = workers - low;
+    let middle = fours.len() * low / workers;
+    let (front, back) = fours.split_at(middle);
+    let (these, those) = join(
+        rt,
+        || -> Result<Vec<Half>, AllocError>
+            requires { IsSync R.row × (((1 ≤ low) × (low ≤ 64))
+                × ((length front.now ≤ 4096) × All IsReadable front.now)) }
+            ensures { IfOk result (λ halves. AllZip (IsHalved version) front.entry.now
+                halves.items) }
+        { halve(rt, alloc, front, version, low) },
+        || -> Result<Vec<Half>, AllocError>
+            requires { IsSync R.row × (((1 ≤ high) × (high ≤ 64))
+                × ((length back.now ≤ 4096) × All IsReadable back.now)) }
+            ensures { IfOk result (λ halves. AllZip (IsHalved version) back.entry.now
+                halves.items) }
+        { halve(rt, alloc, back, version, high) },
+    );
+    let mut halves = these?;
+    let mut later = those?;
+    halves.append(&mut later)?;
+    Ok(halves)
 }

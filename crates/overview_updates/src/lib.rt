@@ -11,6 +11,7 @@ mod halves;
 mod laws;
 mod places;
 mod quarters;
+mod reading;
 mod stop;
 mod updates;
 

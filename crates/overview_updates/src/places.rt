@@ -1,28 +1,32 @@
 //! Coarse places, one after the other: 64 rows of 64.
 
-ghost use Rattle.std.specs.Prelude.{◌≡◌, ◌+◌, ◌/◌, ◌%◌, ◌<◌, ◌≤◌, Err, IfErr, IfOk, IsTrue, length};
+ghost use Rattle.std.specs.Prelude.{◌≡◌, ◌+◌, ◌/◌, ◌%◌, ◌<◌, ◌≤◌, ℕ, Bool, Err, IfErr, IfOk, List, OnOk, length};
 ghost use Rattle.outside_io.specs.declared.volume.VolFile.TheVariants.{Bundle};
 ghost use Rattle.outside_io.specs.streams.Faults.{IsCause};
 ghost use Rattle.outside_io.specs.volume.History.{contents};
-ghost use Rattle.overview_updates.specs.Overview.{coarse_slot};
-ghost use Rattle.overview_updates.specs.inside.SoFar.{Follows, IsFilled, Steps, IsToldAtOnce, waits_of};
+ghost use Rattle.overview_updates.specs.Overview.{coarse_slot, place_of};
+ghost use Rattle.overview_updates.specs.inside.Fours.{AreHalves, IsHalfAt, IsRound};
+ghost use Rattle.overview_updates.specs.inside.Reads.{CanRead};
+ghost use Rattle.overview_updates.specs.inside.SoFar.{AreWaiting, IsFilled, IsToldAtOnce};
 ghost use Rattle.bundle_store.specs.Told.{OnlyReads};
-ghost use Rattle.bundle_store.specs.Serving.{Serving};
 
 use crate::asked::Asked;
-use crate::halves::read_half;
+use crate::halves::{Half, halve};
+use crate::quarters::{Four, Quarter, ROW_PLACES, read_four};
+use crate::reading::Reading;
 use crate::stop::OverviewStop;
 use bundle_index::Slot;
-use bundle_store::Session;
 use outside_io::Volume;
 use std::alloc::Global;
+use std::thread::Threads;
 use tile_updates::Batch;
+use tile_workers::{Gate, Machine};
 
 /// How many coarse places a bundle has.
 pub(crate) const MOST_PLACES: u16 = 4096;
 
-/// How many of them a row has.
-const ROW_PLACES: u16 = 64;
+/// From how many bytes on the tiles of a round are as many as are kept.
+const MANY_BYTES: usize = 16777216;
 
 /// Halves that wait, and the number of the place behind them.
 #[derive(Drop)]
@@ -40,64 +44,100 @@ pub(crate) enum Next {
     Refused(OverviewStop),
 }
 
-/// What a stop of reading comes to: a volume that fails and want of memory are told at once, and a
-/// refusal behind the tiles before it.
-fn next_of(stop: OverviewStop) -> Result<Next, OverviewStop>
-    ensures { result ≡ waits_of stop }
-{
-    match stop {
-        OverviewStop::Volume => Err(OverviewStop::Volume),
-        OverviewStop::OutOfMemory => Err(OverviewStop::OutOfMemory),
-        refusal => Ok(Next::Refused(refusal)),
-    }
-}
-
-/// The slot of a coarse tile in the coarser bundle.
-fn coarse_slot_of(quarter: u8, row: u8, col: u8) -> Slot
+/// The slot of the coarse tile of a place in the coarser bundle.
+fn coarse_slot_of(quarter: u8, place: u16) -> Slot
     requires quarter { quarter < 4 }
-    requires row { row < 64 }
-    requires col { col < 64 }
-    ensures { result ≡ coarse_slot quarter row col }
+    requires place { place < 4096 }
+    ensures { result ≡ coarse_slot quarter (place_of place).0 (place_of place).1 }
 {
+    let row = (place / ROW_PLACES) as u8;
+    let col = (place % ROW_PLACES) as u8;
     match Slot::of(64 * (quarter / 2) + row, 64 * (quarter % 2) + col) {
         Some(slot) => slot,
         None => unreachable!(),
     }
 }
 
-/// Reads the coarse tile of the next place, and lets its half wait where one of its four tiles is
-/// there.
-fn wait_next<V: Volume>(
+/// How many bytes of the tiles of a coarse place were read.
+fn bytes_of(four: &Four) -> usize {
+    let mut sum = 0_usize;
+    for quarter in four.quarters.iter() {
+        if let Quarter::Tile(bytes) = quarter {
+            sum = sum.saturating_add(bytes.len());
+        }
+    }
+    sum
+}
+
+/// Reads the tiles of the next coarse places: until as many of these have one as there are workers,
+/// or the tiles have many bytes.
+fn read_round<V: Volume>(
     alloc: Global,
-    session: &Session,
+    reading: &mut Reading<'_>,
     vol: &mut V,
-    asked: &Asked,
-    waiting: &mut Waiting,
-) -> Result<Next, OverviewStop>
-    requires place { waiting.old.place < 4096 }
-    requires few { length waiting.old.batch ≤ waiting.old.place }
-    requires serving { Serving V.told V.history session.now vol.old }
-    ensures steps { IfOk result
-        (λ next. Steps asked.now.coding.version waiting.old waiting.new next) }
-    ensures follows { IsTrue (V.told vol.old) → IfOk result (λ next. Follows
-        (contents Bundle (V.history vol.old)) asked.now.quarter asked.now.coding.version
-        waiting.old waiting.new next) }
+    workers: usize,
+    place: u16,
+) -> Result<Vec<Four>, OverviewStop>
+    requires place { place < 4096 }
+    requires some { 0 < workers }
+    requires reading { CanRead V.told V.history reading.old vol.old }
+    ensures reading { OnOk result (CanRead V.told V.history reading.new vol.new) }
+    ensures some { IfOk result (λ fours. 0 < length fours.items) }
+    ensures within { IfOk result (λ fours. place + length fours.items ≤ 4096) }
+    ensures round { IfOk result (λ fours. IsRound (V.told vol.old)
+        (contents Bundle (V.history vol.old)) place fours.items) }
     ensures at_once { IfErr result (λ stop. IsToldAtOnce stop) }
     ensures reads { OnlyReads V.told V.history V.faults
         (IsCause (result ≡ Err OverviewStop.Volume)) vol.old vol.new }
 {
-    let row = (waiting.place / ROW_PLACES) as u8;
-    let col = (waiting.place % ROW_PLACES) as u8;
-    let half = match read_half(alloc, session, vol, asked.coding.version, row, col) {
-        Ok(Some(half)) => half,
-        Ok(None) => {
+    let mut fours = Vec::new(alloc);
+    let mut at = place;
+    let mut some = 0;
+    let mut bytes = 0_usize;
+    while at < MOST_PLACES && some < workers && bytes < MANY_BYTES {
+        let four = match read_four(reading, vol, at) {
+            Ok(four) => four,
+            Err(stop) => return Err(stop),
+        };
+        let more = bytes_of(&four);
+        match fours.push(four) {
+            Ok(()) => {}
+            Err(_) => return Err(OverviewStop::OutOfMemory),
+        }
+        if more > 0 {
+            some += 1;
+        }
+        bytes = bytes.saturating_add(more);
+        at += 1;
+    }
+    Ok(fours)
+}
+
+/// Lets the half of the next place wait, if it has one.
+fn wait_half(asked: &Asked, half: Half, waiting: &mut Waiting) -> Result<Next, OverviewStop>
+    requires place { waiting.old.place < 4096 }
+    requires few { length waiting.old.batch ≤ waiting.old.place }
+    ensures waits { (told : Bool) (bundle : List ℕ) (from : ℕ)
+        → AreWaiting told bundle asked.now.quarter asked.now.coding.version from waiting.old
+        → IsHalfAt told bundle asked.now.coding.version waiting.old.place half
+        → IfOk result (λ next. IsFilled told bundle asked.now.quarter asked.now.coding.version from
+        waiting.new next) }
+    ensures forth { IfOk result (λ next. next ≡ Next.More
+        → waiting.new.place ≡ waiting.old.place + 1) }
+    ensures few { IfOk result (λ next. next ≡ Next.More
+        → length waiting.new.batch ≤ waiting.new.place) }
+    ensures memory { IfErr result (λ stop. stop ≡ OverviewStop.OutOfMemory) }
+{
+    let bands = match half {
+        Half::Nothing => {
             waiting.place += 1;
             return Ok(Next::More);
         }
-        Err(stop) => return next_of(stop),
+        Half::Refused(stop) => return Ok(Next::Refused(stop)),
+        Half::Coarse(bands) => bands,
     };
-    let slot = coarse_slot_of(asked.quarter, row, col);
-    match waiting.batch.push(slot, half) {
+    let slot = coarse_slot_of(asked.quarter, waiting.place);
+    match waiting.batch.push(slot, bands) {
         Ok(()) => {
             waiting.place += 1;
             Ok(Next::More)
@@ -106,16 +146,87 @@ fn wait_next<V: Volume>(
     }
 }
 
+/// Lets the halves of the next places wait, up to the first that is refused.
+fn wait_halves(
+    asked: &Asked,
+    halves: Vec<Half>,
+    waiting: &mut Waiting,
+) -> Result<Next, OverviewStop>
+    requires some { 0 < length halves.items }
+    requires within { waiting.old.place + length halves.items ≤ 4096 }
+    requires few { length waiting.old.batch ≤ waiting.old.place }
+    ensures waits { (told : Bool) (bundle : List ℕ) (from : ℕ)
+        → AreWaiting told bundle asked.now.quarter asked.now.coding.version from waiting.old
+        → AreHalves told bundle asked.now.coding.version waiting.old.place halves.items
+        → IfOk result (λ next. IsFilled told bundle asked.now.quarter asked.now.coding.version from
+        waiting.new next) }
+    ensures forth { IfOk result (λ next. next ≡ Next.More
+        → waiting.old.place < waiting.new.place) }
+    ensures memory { IfErr result (λ stop. stop ≡ OverviewStop.OutOfMemory) }
+{
+    for half in halves {
+        match wait_half(asked, half, waiting) {
+            Ok(Next::More) => {}
+            Ok(Next::Refused(stop)) => return Ok(Next::Refused(stop)),
+            Err(stop) => return Err(stop),
+        }
+    }
+    Ok(Next::More)
+}
+
+/// Reads the tiles of the next coarse places, and lets their halves wait, which the workers make.
+fn wait_round<R: Threads + Sync, V: Volume, G: Gate>(
+    machine: &Machine<'_, R, G>,
+    reading: &mut Reading<'_>,
+    vol: &mut V,
+    asked: &Asked,
+    waiting: &mut Waiting,
+) -> Result<Next, OverviewStop>
+    requires place { waiting.old.place < 4096 }
+    requires few { length waiting.old.batch ≤ waiting.old.place }
+    requires reading { CanRead V.told V.history reading.old vol.old }
+    ensures reading { OnOk result (CanRead V.told V.history reading.new vol.new) }
+    ensures waits { (from : ℕ) → AreWaiting (V.told vol.old)
+        (contents Bundle (V.history vol.old)) asked.now.quarter asked.now.coding.version from
+        waiting.old → IfOk result (λ next. IsFilled (V.told vol.old)
+        (contents Bundle (V.history vol.old)) asked.now.quarter asked.now.coding.version from
+        waiting.new next) }
+    ensures forth { IfOk result (λ next. next ≡ Next.More
+        → waiting.old.place < waiting.new.place) }
+    ensures at_once { IfErr result (λ stop. IsToldAtOnce stop) }
+    ensures reads { OnlyReads V.told V.history V.faults
+        (IsCause (result ≡ Err OverviewStop.Volume)) vol.old vol.new }
+{
+    let workers = asked.coding.workers;
+    let version = asked.coding.version;
+    let fours = match read_round(machine.alloc, reading, vol, workers, waiting.place) {
+        Ok(fours) => fours,
+        Err(stop) => return Err(stop),
+    };
+    let halves = match halve(
+        machine.rt,
+        machine.alloc,
+        fours.as_slice(),
+        version,
+        workers,
+    ) {
+        Ok(halves) => halves,
+        Err(_) => return Err(OverviewStop::OutOfMemory),
+    };
+    wait_halves(asked, halves, waiting)
+}
+
 /// Reads the coarse tiles of a batch from this place on.
-pub(crate) fn fill<V: Volume>(
-    alloc: Global,
-    session: &Session,
+pub(crate) fn fill<R: Threads + Sync, V: Volume, G: Gate>(
+    machine: &Machine<'_, R, G>,
+    reading: &mut Reading<'_>,
     vol: &mut V,
     asked: &Asked,
     place: u16,
 ) -> Result<(Waiting, Next), OverviewStop>
     requires place { place < 4096 }
-    requires serving { Serving V.told V.history session.now vol.old }
+    requires reading { CanRead V.told V.history reading.old vol.old }
+    ensures reading { OnOk result (CanRead V.told V.history reading.new vol.new) }
     ensures ok { IfOk result (λ r. IsFilled (V.told vol.old)
         (contents Bundle (V.history vol.old)) asked.now.quarter asked.now.coding.version place
         r.0 r.1) }
@@ -124,11 +235,11 @@ pub(crate) fn fill<V: Volume>(
         (IsCause (result ≡ Err OverviewStop.Volume)) vol.old vol.new }
 {
     let mut waiting = Waiting {
-        batch: Batch::new(alloc),
+        batch: Batch::new(machine.alloc),
         place,
     };
     while waiting.place < MOST_PLACES && !waiting.batch.is_full(asked.coding.workers) {
-        match wait_next(alloc, session, vol, asked, &mut waiting) {
+        match wait_round(machine, reading, vol, asked, &mut waiting) {
             Ok(Next::More) => {}
             Ok(Next::Refused(stop)) => return Ok((waiting, Next::Refused(stop))),
             Err(stop) => return Err(stop),

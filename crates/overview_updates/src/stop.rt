@@ -29,7 +29,8 @@ pub enum OverviewStop {
     KeptTooMuch { at: u64 },
     /// The volume failed.
     Volume,
-    /// There is no memory for a tile, its bands, a mosaic, a blob or the list of updates.
+    /// There is no memory for what is read at once, a tile, its bands, a mosaic, a blob or the list
+    /// of updates.
     OutOfMemory,
 }
 

@@ -55,6 +55,10 @@ impl Target for Raster {
         Raster::put_from(self, place, d, values);
     }
 
+    fn put_run(&mut self, place: usize, d: u32, below: u8, bytes: &[u8]) {
+        Raster::put_run(self, place, d, below, bytes);
+    }
+
     fn fill_value(&mut self, value: i64) {
         Raster::fill_value(self, value);
     }

@@ -53,6 +53,10 @@ impl<'v, 'm> Target for RasterMut<'v, 'm> {
         RasterMut::put_from(self, place, d, values);
     }
 
+    fn put_run(&mut self, place: usize, d: u32, below: u8, bytes: &[u8]) {
+        RasterMut::put_run(self, place, d, below, bytes);
+    }
+
     fn fill_value(&mut self, value: i64) {
         RasterMut::fill_value(self, value);
     }

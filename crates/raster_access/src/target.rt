@@ -3,6 +3,7 @@
 ghost use Rattle.std.specs.Prelude.{◌≡◌, ◌+◌, ◌*◌, ◌<◌, ◌≤◌, ℕ, pos, false, None, false, is_some, get_or, length, map, replicate, true, All};
 ghost use Rattle.lane_kernels.specs.Kernels.{IsStepSize, capped_sums};
 ghost use Rattle.raster_cells.specs.PixelType.{InRange, bytes_of};
+ghost use Rattle.raster_cells.specs.Values.{values_above};
 ghost use Rattle.raster_values.specs.Raster.{Pixels, IsRaster, InShape, valid_count};
 ghost use Rattle.raster_values.specs.Block.{block_count, ScattersBlock};
 ghost use Rattle.raster_values.specs.Order.{FillsBytes, FillsValid, ScattersBytes};
@@ -99,6 +100,21 @@ pub trait Target {
         requires depth { d < (pixels self.old).depth }
         requires in_range { All (InRange (pixels self.old).kind) values.now }
         ensures put { PutsFrom (pixels self.old) (pixels self.new) place d values.now }
+        ensures sound { IsRaster (pixels self.new) }
+        ensures kept { kept self.new ≡ kept self.old };
+
+    /// Gives the pixels from number `place` on, which are all valid, the values at a depth that the
+    /// bytes tell, each by how far it is above the number that is `below` under zero. All else
+    /// stays.
+    fn put_run(&mut self, place: usize, d: u32, below: u8, bytes: &[u8])
+        requires place { place + length bytes.now
+            ≤ (pixels self.old).rows * (pixels self.old).cols }
+        requires depth { d < (pixels self.old).depth }
+        requires in_range { All (InRange (pixels self.old).kind) (values_above below bytes.now) }
+        requires marked { (k : ℕ) → place ≤ k → k < place + length bytes.now
+            → get_or (marks_of (pixels self.old)) k false ≡ true }
+        ensures put { PutsFrom (pixels self.old) (pixels self.new) place d
+            (values_above below bytes.now) }
         ensures sound { IsRaster (pixels self.new) }
         ensures kept { kept self.new ≡ kept self.old };
 

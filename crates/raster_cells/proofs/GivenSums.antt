@@ -38,7 +38,7 @@ sums_flat (q ∷ qs) offset step =
 
 -- ---- some of them
 
-map_cut : (f : ℕ → ℤ) (qs : List ℕ) (n count : ℕ) → map f (take count (drop n qs)) ≡ take count (drop n (map f qs))
+pub map_cut : (f : ℕ → ℤ) (qs : List ℕ) (n count : ℕ) → map f (take count (drop n qs)) ≡ take count (drop n (map f qs))
 map_cut f [] zero zero = refl
 map_cut f [] zero (suc count) = refl
 map_cut f [] (suc n) zero = refl

@@ -4,6 +4,7 @@ pub mod Distances
 mod EqualMasks
 pub mod Every
 mod FrontBits
+pub mod GivenBytes
 pub mod GivenRuns
 mod GivenSums
 mod LentMasks

@@ -1,5 +1,5 @@
 -- Bytes that stand for values, one value behind the other.
-use Rattle.std.specs.Prelude.{ℕ, ℤ, List, ◌≡◌, pos, ◌*◌, ◌<◌, length, drop, get_or, All}
+use Rattle.std.specs.Prelude.{ℕ, ℤ, List, ◌≡◌, pos, ◌-ℤ◌, ◌*◌, ◌<◌, length, drop, get_or, map, All}
 use Rattle.std.specs.List.{flat_map}
 use Rattle.byteorder.specs.Endian.{little_number}
 use Rattle.raster_cells.specs.declared.kind.PixelType.{PixelType}
@@ -33,3 +33,7 @@ ValuesAreThere = (kind : PixelType) (bytes : List ℕ) (n : ℕ) → ((i : ℕ) 
     → (values : List ℤ)
     × (AreValues kind bytes values
     × ((length values ≡ n) × (All (InRange kind) values × (bytes ≡ values_bytes kind values))))
+
+-- the values that bytes tell, each by how far it is above a number that is so far below zero
+abbrev pub values_above : ℕ → List ℕ → List ℤ
+values_above below bytes = map (λ x. pos x -ℤ pos below) bytes

@@ -25,4 +25,4 @@ pub use values::cell_store::{CellStore, fill_pixels, one_of, put_marked_as, put_
 pub use values::cells::Cells;
 pub use values::pixels_from::PixelsFrom;
 pub use values::value_bytes::{place, value_at, write_values};
-pub use values::value_source::{OneValue, Sums, ValueList, ValueSource};
+pub use values::value_source::{ByteList, OneValue, Sums, ValueList, ValueSource};

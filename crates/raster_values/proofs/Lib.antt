@@ -7,6 +7,7 @@ mod Changes
 pub mod Deep
 pub mod FlatViews
 mod FullWidth
+mod GatheredRanges
 mod GatheredRuns
 mod GivenBlocks
 mod InOrder

@@ -4,5 +4,6 @@ pub(crate) mod counting;
 pub(crate) mod gathering;
 pub(crate) mod numbered;
 pub(crate) mod order;
+pub(crate) mod ranging;
 pub(crate) mod scattering;
 pub(crate) mod window;

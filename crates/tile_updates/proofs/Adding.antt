@@ -87,6 +87,14 @@ same_there [] i d below = absurd (omega (arith, below))
 same_there (b ∷ bs) zero d below = refl
 same_there (b ∷ bs) (suc i) d below = same_there bs i d (omega (arith, below))
 
+-- the blobs of the tiles of a batch are those of its bands
+pub blobs_of : (v : Version) (step : ℕ) (slots : List ℕ) (bands : List (List Pixels)) → length slots ≡ length bands
+    → map (tile_bytes v step) (tiles_of slots bands) ≡ map (λ (t : List Pixels). chosen_bands None t v step) bands
+blobs_of v step [] [] e = refl
+blobs_of v step [] (b ∷ bs) e = absurd (omega (arith, e))
+blobs_of v step (s ∷ ss) [] e = absurd (omega (arith, e))
+blobs_of v step (s ∷ ss) (b ∷ bs) e = ap (λ (us : List (List ℕ)). chosen_bands None b v step ∷ us) (blobs_of v step ss bs (omega (arith, e)))
+
 -- the tile with this number, and its blobs
 pub record IsNext (v : Version) (step : ℕ) (slots : List ℕ) (bands : List (List Pixels)) (i s : ℕ) (blob : List ℕ) : Type 0 where
   pub bands_is : List Pixels

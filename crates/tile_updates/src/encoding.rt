@@ -1,6 +1,6 @@
 //! A batch of tiles encoded, and their updates added.
 
-ghost use Rattle.std.specs.Prelude.{◌≡◌, ◌++◌, All, IfErr, OnOk};
+ghost use Rattle.std.specs.Prelude.{◌≡◌, ◌++◌, All, IfErr, OnOk, map};
 ghost use Rattle.lerc_encode.specs.Encoded.{AreEncodedOnce, BandsNeedV4};
 ghost use Rattle.tile_updates.specs.Adding.{MayBeAdded, TellsBatchStop};
 ghost use Rattle.tile_updates.specs.Updates.{tile_bytes, updates_of};
@@ -10,7 +10,40 @@ use crate::list::UpdateList;
 use crate::stop::BatchStop;
 use std::alloc::Global;
 use std::thread::Threads;
-use tile_workers::{Coding, Gate, encode_tiles};
+use tile_workers::{Blobs, Coding, Gate, encode_tiles};
+
+/// Adds the updates of a batch, whose tiles have these blobs, in their order, up to the first that
+/// is refused.
+///
+/// After an error some of the updates are in the list.
+pub(crate) fn add_blobs(
+    batch: Batch,
+    blobs: Blobs,
+    coding: &Coding,
+    list: &mut UpdateList,
+) -> Result<(), BatchStop>
+    requires flat { All (λ t. ¬ BandsNeedV4 coding.now.version t.bands) batch }
+    requires blobs { blobs ≡ map (tile_bytes coding.now.version coding.now.step) batch }
+    ensures added { OnOk result
+        (list.new ≡ list.old ++ updates_of coding.now.version coding.now.step batch) }
+    ensures passed { OnOk result
+        (MayBeAdded coding.now.version coding.now.step list.old batch) }
+    ensures refused { IfErr result
+        (λ stop. TellsBatchStop coding.now.version coding.now.step list.old batch stop) }
+{
+    // for the proof: `len` ensures that the blobs so far are few bytes
+    let _len = list.len();
+    let Batch { slots, .. } = batch;
+    let mut i = 0;
+    let all = blobs.into_vec();
+    for blob in all {
+        if let Err(stop) = list.add(slots[i], blob) {
+            return Err(stop);
+        }
+        i += 1;
+    }
+    Ok(())
+}
 
 /// Encodes the tiles of a batch, and adds their updates, in their order, up to
 /// the first that is refused. The gate is that of `encode_tiles`, the tiles being numbered in the
@@ -35,19 +68,8 @@ pub fn encode_batch<R: Threads + Sync, G: Gate>(
     ensures refused { IfErr result
         (λ stop. TellsBatchStop coding.version coding.step list.old batch stop) }
 {
-    // for the proof: `len` ensures that the blobs so far are few bytes
-    let _len = list.len();
-    let Batch { slots, tiles, .. } = batch;
-    let blobs = match encode_tiles(rt, alloc, tiles.as_slice(), coding, gate) {
-        Ok(blobs) => blobs.into_vec(),
-        Err(_) => return Err(BatchStop::OutOfMemory),
-    };
-    let mut i = 0;
-    for blob in blobs {
-        if let Err(stop) = list.add(slots[i], blob) {
-            return Err(stop);
-        }
-        i += 1;
+    match encode_tiles(rt, alloc, batch.tiles.as_slice(), coding, gate) {
+        Ok(blobs) => add_blobs(batch, blobs, &coding, list),
+        Err(_) => Err(BatchStop::OutOfMemory),
     }
-    Ok(())
 }

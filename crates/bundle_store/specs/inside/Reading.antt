@@ -1,6 +1,5 @@
 -- Why the bytes of one tile are not read.
 use Rattle.std.specs.Prelude.{◌<◌}
-use Rattle.bundle_index.specs.declared.entry.Entry.{Entry}
 use Rattle.bundle_store.specs.declared.fault.StoreFault.{StoreFault}
 use Rattle.bundle_store.specs.declared.fault.StoreFault.TheVariants.{Device, Beyond, OutOfMemory}
 

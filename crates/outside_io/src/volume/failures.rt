@@ -28,7 +28,9 @@ pub struct Failures {
 }
 
 /// Why a call at the clock's end fails.
-pub fn no_time(file: VolFile) -> Failure {
+pub fn no_time(file: VolFile) -> Failure
+    ensures { result.file ≡ file }
+{
     Failure {
         file,
         error: io::Error::other("no call is left"),

@@ -20,8 +20,10 @@ marks_amount marks i = one_of (get_or marks i false)
 abbrev pub ones : ℕ → ℤ
 ones i = pos 1
 
-abbrev pub values_amount : List ℤ → ℕ → ℤ
-values_amount values i = get_or values i (pos 0)
+-- the value at the depth d of pixel number i behind number `first`, of which each has `depth`
+-- values
+abbrev pub piece_amount : ℕ → ℕ → ℕ → List ℤ → ℕ → ℤ
+piece_amount first depth d values i = get_or values ((first + i) * depth + d) (pos 0)
 
 -- whether pixel number k is valid, as a number
 abbrev pub mark_in : Pixels → ℕ → ℤ

@@ -4,6 +4,7 @@ use Rattle.raster_values.specs.Raster.{Pixels, IsRaster}
 use Rattle.raster_values.specs.Flat.{value_in}
 use Rattle.overview_tiles.specs.declared.layer.Frame.{Frame}
 use Rattle.overview_tiles.specs.Sums.{Sums}
+use Rattle.overview_tiles.specs.inside.Reach.{reach_of}
 use Rattle.overview_tiles.specs.inside.Comes.{GrowsCounts, IsWithin, comes, mark_in, total_at}
 
 -- the raster fits where it is laid
@@ -55,7 +56,7 @@ pub record CanLay (f : Frame) (r : Pixels) (s : Sums) : Type 0 where
   pub counts : length s.counts ≡ r.rows * r.cols
   pub sums : length s.sums ≡ r.rows * r.cols * r.depth
   pub fits : CountsFit f r 0 (r.rows * r.cols) s.counts
-  pub within : AreWithin 144115188075855872 (r.rows * r.cols) f.depth s.sums
+  pub within : AreWithin (256 * reach_of r.kind) (r.rows * r.cols) f.depth s.sums
 
 -- and what is left then: all pixels have come to the totals
 pub record LaysAll (f : Frame) (r : Pixels) (old new : Sums) : Type 0 where

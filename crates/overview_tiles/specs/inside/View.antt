@@ -1,9 +1,10 @@
 -- How the fields of a mosaic stand for it.
-use Rattle.std.specs.Prelude.{◌≡◌, ℕ, ◌*◌, ◌<◌, ◌≤◌, length, get_or}
+use Rattle.std.specs.Prelude.{◌≡◌, ℕ, ◌*◌, ◌<◌, ◌≤◌, length, get_or, replicate}
 use Rattle.raster_cells.specs.Shapes.{IsShape}
 use Rattle.overview_tiles.specs.declared.mosaic.Mosaic.TheInside.{Inside}
 use Rattle.overview_tiles.specs.Sums.{AreSums, Kept, no_sums}
 use Rattle.overview_tiles.specs.Tiles.{Tiles}
+use Rattle.overview_tiles.specs.inside.Numbers.{kinds_of, sums_of}
 
 abbrev pub seen : Inside → Kept
 seen a =
@@ -13,7 +14,7 @@ seen a =
       cols = a.cols;
       depth = a.depth;
       laid = a.laid;
-      bands = a.bands.items;
+      bands = sums_of a.bands.items;
     }
 
 -- there are as many numbers as the shape asks for
@@ -28,8 +29,9 @@ pub record HasRoom (m : Kept) : Type 0 where
   pub sums : (b : ℕ) → b < length m.bands
       → length (get_or m.bands b no_sums).sums ≡ m.rows * m.cols * m.depth
 
--- the numbers are those of some tiles
+-- the numbers are those of some tiles, and each band's are of the mosaic's type
 pub record IsMosaic (a : Inside) : Type 0 where
+  pub kinds : kinds_of a.bands.items ≡ replicate (length a.bands.items) a.kind
   pub room : HasRoom (seen a)
   pub tiles : Tiles
   pub sums : AreSums (seen a) tiles

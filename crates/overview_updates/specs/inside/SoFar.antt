@@ -1,5 +1,5 @@
 -- What was made of the coarse tiles of the first places, what waits behind them, and what follows.
-use Rattle.std.specs.Prelude.{◌≡◌, ◌⊎◌, ℕ, ◌+◌, ◌<◌, ◌≤◌, Bool, true, false, IsTrue, List, [], ◌∷◌, ◌++◌, length, All, Option, Some, None, Result, Ok, Err}
+use Rattle.std.specs.Prelude.{◌≡◌, ◌⊎◌, ℕ, ◌+◌, ◌<◌, ◌≤◌, Bool, true, false, IsTrue, List, [], ◌∷◌, ◌++◌, length, All, Option, Some, None}
 use Rattle.std.specs.List.{AllZip}
 use Rattle.raster_values.specs.Raster.{Pixels}
 use Rattle.lerc_header.specs.declared.header.Version.{Version}
@@ -14,7 +14,7 @@ use Rattle.overview_updates.specs.declared.places.Next.{Next}
 use Rattle.overview_updates.specs.declared.places.Next.TheVariants.{More, Refused}
 use Rattle.overview_updates.specs.declared.places.Waiting.{Waiting}
 use Rattle.overview_updates.specs.declared.stop.OverviewStop.{OverviewStop}
-use Rattle.overview_updates.specs.declared.stop.OverviewStop.TheVariants.{Beyond, BadTile, Unlike, DepthNeedsV4, TileTooLarge, KeptTooMuch, Volume, OutOfMemory}
+use Rattle.overview_updates.specs.declared.stop.OverviewStop.TheVariants.{Volume, OutOfMemory}
 use Rattle.overview_updates.specs.declared.updates.SoFar.{SoFar}
 
 -- ---- one place
@@ -29,42 +29,12 @@ IsHalfOf bundle a b (Some half) = (has_quarter (tiles bundle) a b ≡ true)
 abbrev pub IsToldAtOnce : OverviewStop → Type 0
 IsToldAtOnce stop = (stop ≡ Volume) ⊎ (stop ≡ OutOfMemory)
 
--- and the others wait
-abbrev pub waits_of : OverviewStop → Result Next OverviewStop
-waits_of (Beyond slot entry got) = Ok (Refused (Beyond slot entry got))
-waits_of (BadTile slot fault) = Ok (Refused (BadTile slot fault))
-waits_of (Unlike slot) = Ok (Refused (Unlike slot))
-waits_of (DepthNeedsV4 slot) = Ok (Refused (DepthNeedsV4 slot))
-waits_of (TileTooLarge at len) = Ok (Refused (TileTooLarge at len))
-waits_of (KeptTooMuch at) = Ok (Refused (KeptTooMuch at))
-waits_of Volume = Err Volume
-waits_of OutOfMemory = Err OutOfMemory
-
--- What a place changes, whatever the volume tells. A refusal that waits is no failure of the volume
--- and no want of memory.
-abbrev pub Steps : Version → Waiting → Waiting → Next → Type 0
-Steps v before after More =
-    (after.place ≡ before.place + 1)
-    × ((length after.batch ≤ length before.batch + 1)
-    × (All (λ t. ¬ BandsNeedV4 v t.bands) before.batch
-    → All (λ t. ¬ BandsNeedV4 v t.bands) after.batch))
-Steps v before after (Refused stop) =
-    (after ≡ before) × (ReadFails stop × (IsToldAtOnce stop → ⊥))
-
 -- the place with this number has no coarse tile, or it is the last one behind the old ones
 abbrev pub TakesPlace : List ℕ → ℕ → ℕ → List Tile → List Tile → Type 0
 TakesPlace bundle quarter k old new =
     ((has_quarter (tiles bundle) (place_of k).0 (place_of k).1 ≡ false) × (new ≡ old))
     ⊎ ((has_quarter (tiles bundle) (place_of k).0 (place_of k).1 ≡ true)
     × ((t : Tile) × (IsCoarse bundle quarter (place_of k) t × (new ≡ old ++ t ∷ []))))
-
--- the place's coarse tile was taken, if it has one; or it is refused
-abbrev pub Follows : List ℕ → ℕ → Version → Waiting → Waiting → Next → Type 0
-Follows bundle quarter v before after More =
-    TakesPlace bundle quarter before.place before.batch after.batch
-Follows bundle quarter v before after (Refused stop) =
-    (has_quarter (tiles bundle) (place_of before.place).0 (place_of before.place).1 ≡ true)
-    × PlaceStops bundle v (place_of before.place) stop
 
 -- ---- the tiles of a batch
 

@@ -1,8 +1,8 @@
 //! Values that are put into a raster, one behind the other, however they come.
 
-ghost use Rattle.std.specs.Prelude.{◌≡◌, ◌+◌, ◌*◌, ◌/◌, ◌<◌, ◌≤◌, ◌++◌, ◌+ℤ◌, ℤ, pos, min, List, All, length, get_or, map, take, drop, replicate};
+ghost use Rattle.std.specs.Prelude.{◌≡◌, ◌+◌, ◌*◌, ◌/◌, ◌<◌, ◌≤◌, ◌++◌, ◌+ℤ◌, ◌-ℤ◌, ℤ, pos, min, List, All, length, get_or, map, take, drop, replicate};
 ghost use Rattle.raster_cells.specs.PixelType.{InRange, bytes_of};
-ghost use Rattle.raster_cells.specs.Values.{values_bytes};
+ghost use Rattle.raster_cells.specs.Values.{values_above, values_bytes};
 ghost use Rattle.raster_cells.specs.inside.OfAType.{IsOfAType};
 ghost use Rattle.lane_kernels.specs.Kernels.{IsStepSize, capped_sums};
 ghost use Rattle.lane_kernels.specs.Within.{sums_within};
@@ -64,6 +64,62 @@ impl<'a> ValueSource for ValueList<'a> {
     #[inline(always)]
     fn write_as(&self, kind: PixelType, n: usize, count: usize, out: &mut [u8]) {
         write_values(kind, &self.values[n..n + count], out);
+    }
+}
+
+/// Values that bytes tell, each by how far it is above a number that is below zero or is zero.
+#[derive(Drop)]
+pub struct ByteList<'a> {
+    pub bytes: &'a [u8],
+    /// How far that number is below zero.
+    pub below: u8,
+}
+
+/// The value that a byte tells.
+#[inline(always)]
+fn value_above(below: u8, byte: u8) -> i64
+    ensures { result ≡ pos byte -ℤ pos below }
+{
+    i64::from(byte) - i64::from(below)
+}
+
+/// Lays the bytes of the values that these bytes tell over the front of `out`, one behind the
+/// other. The bytes behind them stay.
+#[inline(always)]
+fn write_above(kind: PixelType, below: u8, bytes: &[u8], out: &mut [u8])
+    requires in_range { All (InRange kind) (values_above below bytes.now) }
+    requires room { length bytes.now * bytes_of kind ≤ length out.old }
+    ensures { out.new ≡ values_bytes kind (values_above below bytes.now)
+        ++ drop (length bytes.now * bytes_of kind) out.old }
+{
+    let size = kind.bytes();
+    for (i, byte) in bytes.iter().enumerate() {
+        kind.write_value(value_above(below, *byte), &mut out[i * size..]);
+    }
+}
+
+impl<'a> ValueSource for ByteList<'a> {
+    ghost use Rattle.raster_cells.specs.Listed.{told_by};
+
+    ghost listed = { told_by };
+
+    #[inline(always)]
+    fn len(&self) -> usize {
+        self.bytes.len()
+    }
+
+    #[inline(always)]
+    fn at_as(&self, kind: PixelType, i: usize) -> i64 {
+        if i < self.bytes.len() {
+            value_above(self.below, self.bytes[i])
+        } else {
+            0
+        }
+    }
+
+    #[inline(always)]
+    fn write_as(&self, kind: PixelType, n: usize, count: usize, out: &mut [u8]) {
+        write_above(kind, self.below, &self.bytes[n..n + count], out);
     }
 }
 

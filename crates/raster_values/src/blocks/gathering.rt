@@ -1,12 +1,11 @@
 //! Values of the marked pixels of a window, or of a run of pixels, read.
 
-ghost use Rattle.std.specs.Prelude.{◌≡◌, ℕ, ℤ, ◌+◌, ◌*◌, ◌<◌, ◌≤◌, Bool, List, length, take, drop, ◌++◌};
+ghost use Rattle.std.specs.Prelude.{◌≡◌, ℕ, ◌+◌, ◌*◌, ◌<◌, ◌≤◌, Bool, List, length, take, drop, ◌++◌};
 ghost use Rattle.raster_cells.specs.Words.{AreMarks};
 ghost use Rattle.raster_cells.specs.Runs.{run_places};
-ghost use Rattle.raster_values.specs.inside.Runs.{Gathers, IsRange};
-ghost use Rattle.raster_values.specs.inside.Planes.{plane_distances, plane_values, whole_distances, window_distances};
+ghost use Rattle.raster_values.specs.inside.Runs.{Gathers};
+ghost use Rattle.raster_values.specs.inside.Planes.{plane_distances, whole_distances, window_distances};
 ghost use Rattle.raster_values.specs.inside.Windows.{HasRoom};
-ghost use Rattle.lane_kernels.specs.Kernels.{IsLeast, IsGreatest};
 
 use crate::blocks::window::{Plane, Window};
 use raster_cells::{PixelType, PixelsFrom, by_kind};
@@ -225,39 +224,4 @@ fn gather_marked_rows(plane: &Plane, window: Window, out: &mut [u32]) -> usize
         n = gather_run(plane, from, window.wide, out, n);
     }
     n
-}
-
-/// What is found with a least and a greatest value more.
-fn wider(found: Option<(i64, i64)>, more: (i64, i64)) -> (i64, i64)
-    ensures { (xs ys : List ℤ) → IsRange found xs → IsLeast ys more.0 → IsGreatest ys more.1
-        → IsRange (Some result) (xs ++ ys) }
-{
-    match found {
-        Some((least, greatest)) => (least.min(more.0), greatest.max(more.1)),
-        None => more,
-    }
-}
-
-/// The least and the greatest of the marked pixels' values.
-pub(crate) fn range_of(plane: &Plane) -> Option<(i64, i64)>
-    ensures { IsRange result (plane_values plane.now 0 (length plane.now.marks.now)) }
-{
-    let marks = plane.marks;
-    let mut found = None;
-    let mut k = 0;
-    while k < marks.len() {
-        let run = marks.next_run(k, marks.len());
-        if run.start < run.end {
-            let count = run.end - run.start;
-            let pixels = PixelsFrom {
-                first: run.start,
-                depth: plane.depth,
-                d: plane.d,
-            };
-            let more = plane.samples.extremes(pixels, count);
-            found = Some(wider(found, more));
-        }
-        k = run.end;
-    }
-    found
 }

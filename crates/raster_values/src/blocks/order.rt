@@ -1,6 +1,6 @@
 //! The values of a raster in order: one behind the other.
 
-ghost use Rattle.std.specs.Prelude.{◌≡◌, ◌+◌, ◌-◌, ◌*◌, ◌<◌, ◌≤◌, length, All};
+ghost use Rattle.std.specs.Prelude.{◌≡◌, ℕ, ◌+◌, ◌-◌, ◌*◌, ◌<◌, ◌≤◌, true, false, get_or, length, All};
 ghost use Rattle.raster_cells.specs.PixelType.{InRange, bytes_of};
 ghost use Rattle.raster_values.specs.Raster.{values_of};
 ghost use Rattle.raster_values.specs.View.{pixels_of};
@@ -188,6 +188,60 @@ pub(crate) fn put_values<M: MarkSource, V: CellStore>(
     let (marks, depth, d) = (channel.marks, channel.depth, channel.d);
     by_kind!(channel.kind, kind => {
         put_values_as(&Channel { marks, kind, depth, d }, place, input, values)
+    })
+}
+
+/// Does what `put_run` does, for a type that is known before.
+#[inline(always)]
+fn put_run_as<M: MarkSource, V: CellStore, G: ValueSource>(
+    channel: &Channel<M>,
+    place: usize,
+    given: &G,
+    values: &mut V,
+)
+    requires values { AreOf channel.now.kind channel.now.depth
+        (length (M.marks channel.now.marks.now)) (V.cells values.old) }
+    requires within { place + length (G.listed given.now) ≤ length (M.marks channel.now.marks.now) }
+    requires in_range { All (InRange channel.now.kind) (G.listed given.now) }
+    requires marked { (k : ℕ) → place ≤ k → k < place + length (G.listed given.now)
+        → get_or (M.marks channel.now.marks.now) k false ≡ true }
+    ensures put { PutsMarked channel.now.depth channel.now.d (M.marks channel.now.marks.now) place
+        (length (G.listed given.now)) (G.listed given.now)
+        (V.cells values.old).values (V.cells values.new).values }
+    ensures form { KeepsForm (V.cells values.old) (V.cells values.new) }
+    ensures kept { V.kept values.new ≡ V.kept values.old }
+{
+    let (kind, depth, d) = (channel.kind, channel.depth, channel.d);
+    let pixels = PixelsFrom {
+        first: place,
+        depth,
+        d,
+    };
+    put_pixels_as(values, kind, pixels, given, 0, given.len());
+}
+
+/// Gives the pixels from `place` on, which are all marked, the values that are given.
+pub(crate) fn put_run<M: MarkSource, V: CellStore, G: ValueSource>(
+    channel: &Channel<M>,
+    place: usize,
+    given: &G,
+    values: &mut V,
+)
+    requires values { AreOf channel.now.kind channel.now.depth
+        (length (M.marks channel.now.marks.now)) (V.cells values.old) }
+    requires within { place + length (G.listed given.now) ≤ length (M.marks channel.now.marks.now) }
+    requires in_range { All (InRange channel.now.kind) (G.listed given.now) }
+    requires marked { (k : ℕ) → place ≤ k → k < place + length (G.listed given.now)
+        → get_or (M.marks channel.now.marks.now) k false ≡ true }
+    ensures put { PutsMarked channel.now.depth channel.now.d (M.marks channel.now.marks.now) place
+        (length (G.listed given.now)) (G.listed given.now)
+        (V.cells values.old).values (V.cells values.new).values }
+    ensures form { KeepsForm (V.cells values.old) (V.cells values.new) }
+    ensures kept { V.kept values.new ≡ V.kept values.old }
+{
+    let (marks, depth, d) = (channel.marks, channel.depth, channel.d);
+    by_kind!(channel.kind, kind => {
+        put_run_as(&Channel { marks, kind, depth, d }, place, given, values)
     })
 }
 

@@ -1,6 +1,6 @@
 //! Values in a caller's array, while a call changes them.
 
-ghost use Rattle.std.specs.Prelude.{◌≡◌, ◌≢◌, ◌+◌, ◌*◌, ◌<◌, ◌≤◌, All, length, pos, replicate};
+ghost use Rattle.std.specs.Prelude.{◌≡◌, ◌≢◌, ℕ, ◌+◌, ◌*◌, ◌<◌, ◌≤◌, All, false, get_or, length, pos, replicate, true};
 ghost use Rattle.std.specs.List.{count_by};
 ghost use Rattle.raster_cells.specs.PixelType.{InRange, bytes_of};
 ghost use Rattle.raster_cells.specs.Values.{values_bytes};
@@ -112,6 +112,38 @@ pub fn scatter_over<G: ValueSource>(
         values,
     };
     scattering::scatter_rows(channel, window, given, &mut cells);
+}
+
+/// Does what `put_run` does, to values in an array.
+pub fn put_run_over<G: ValueSource>(
+    channel: &Channel<LentMask>,
+    place: usize,
+    count: usize,
+    given: &G,
+    values: &mut [u8],
+)
+    requires cells { AreValueBytes channel.now.kind count values.old }
+    requires values { AreOf channel.now.kind channel.now.depth (length channel.now.marks.now)
+        (cells_in channel.now.kind count values.old) }
+    requires within { place + length (G.listed given.now) ≤ length channel.now.marks.now }
+    requires in_range { All (InRange channel.now.kind) (G.listed given.now) }
+    requires marked { (k : ℕ) → place ≤ k → k < place + length (G.listed given.now)
+        → get_or channel.now.marks.now k false ≡ true }
+    ensures cells { AreValueBytes channel.now.kind count values.new }
+    ensures put { PutsMarked channel.now.depth channel.now.d channel.now.marks.now place
+        (length (G.listed given.now)) (G.listed given.now)
+        (values_in channel.now.kind count values.old)
+        (values_in channel.now.kind count values.new) }
+    ensures form { KeepsForm (cells_in channel.now.kind count values.old)
+        (cells_in channel.now.kind count values.new) }
+{
+    let kind = channel.kind;
+    let mut cells = LentCells {
+        kind,
+        count,
+        values,
+    };
+    order::put_run(channel, place, given, &mut cells);
 }
 
 /// Does what `put_values` does, to values in an array.

@@ -3,7 +3,7 @@ ghost use Rattle.raster_cells.specs.PixelType.{InRange, bytes_of};
 ghost use Rattle.raster_values.specs.Raster.{IsRaster, blank, filled, values_of, valid_count, valid_at, value_at, marked, written, InShape, IsValidAt};
 ghost use Rattle.raster_cells.specs.Shapes.{HasZero, IsTooLarge, IsShape};
 ghost use Rattle.raster_values.specs.Places.{ChangesMark, ChangesValue};
-ghost use Rattle.raster_cells.specs.Values.{values_bytes};
+ghost use Rattle.raster_cells.specs.Values.{values_above, values_bytes};
 ghost use Rattle.raster_values.specs.Order.{FillsBytes, FillsValid, IsMaskOf, MarksBits, ScattersBytes};
 ghost use Rattle.raster_cells.specs.Masks.{mask_bit};
 ghost use Rattle.raster_values.specs.Flat.{PutsFrom, PutsAll, all_values, depth_values, marks_of, valid_from, value_in, values_among};
@@ -15,9 +15,9 @@ ghost use Rattle.lane_kernels.specs.Kernels.{IsStepSize, capped_sums};
 ghost use Rattle.raster_values.specs.Block.{block_count, block_values, ScattersBlock};
 
 use crate::blocks::window::{Channel, Plane, Window};
-use crate::blocks::{counting, gathering, order, scattering};
+use crate::blocks::{counting, gathering, order, ranging, scattering};
 use raster_cells::{
-    CellBytes, Cells, Mask, OneValue, PixelType, PixelsFrom, Run, ValueSource, is_shape,
+    ByteList, CellBytes, Cells, Mask, OneValue, PixelType, PixelsFrom, Run, ValueSource, is_shape,
 };
 use std::alloc::{AllocError, Global};
 use std::marker::Model;
@@ -339,7 +339,7 @@ impl Raster {
             depth: self.depth as usize,
             d: d as usize,
         };
-        gathering::range_of(&plane)
+        ranging::range_of(&plane)
     }
 
     /// Gives the valid pixels of a block the values that are given, at a depth, row by row. All
@@ -463,6 +463,28 @@ impl Raster {
             d: d as usize,
         };
         order::put_values(&channel, place, values, &mut self.values);
+    }
+
+    /// Gives the pixels from number `place` on, which are all valid, the values at a depth that the
+    /// bytes tell, each by how far it is above the number that is `below` under zero. All else
+    /// stays.
+    pub fn put_run(&mut self, place: usize, d: u32, below: u8, bytes: &[u8])
+        requires place { place + length bytes.now ≤ self.old.rows * self.old.cols }
+        requires depth { d < self.old.depth }
+        requires in_range { All (InRange self.old.kind) (values_above below bytes.now) }
+        requires marked { (k : ℕ) → place ≤ k → k < place + length bytes.now
+            → get_or (marks_of self.old) k false ≡ true }
+        ensures put { PutsFrom self.old self.new place d (values_above below bytes.now) }
+        ensures sound { IsRaster self.new }
+    {
+        let channel = Channel {
+            marks: &self.marks,
+            kind: self.values.kind(),
+            depth: self.depth as usize,
+            d: d as usize,
+        };
+        let given = ByteList { bytes, below };
+        order::put_run(&channel, place, &given, &mut self.values);
     }
 
     /// Gives each valid pixel this one value at each depth. All else stays.

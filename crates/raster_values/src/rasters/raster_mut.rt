@@ -4,6 +4,7 @@ ghost use Rattle.std.specs.Prelude.{◌≡◌, ◌≢◌, ◌+◌, ◌*◌, ◌/
 ghost use Rattle.lane_kernels.specs.Kernels.{IsStepSize, capped_sums};
 ghost use Rattle.raster_cells.specs.PixelType.{InRange, Spells, bytes_of};
 ghost use Rattle.raster_cells.specs.Shapes.{IsShape};
+ghost use Rattle.raster_cells.specs.Values.{values_above};
 ghost use Rattle.raster_cells.specs.Masks.{marks_in};
 ghost use Rattle.raster_cells.specs.MarkRuns.{AreRuns};
 ghost use Rattle.raster_cells.specs.LentBytes.{AreValueBytes};
@@ -17,9 +18,11 @@ ghost use Rattle.raster_values.specs.inside.Parts.{AreParts};
 use crate::blocks::counting;
 use crate::blocks::window::{Channel, Window};
 use crate::rasters::lent_cells::{
-    clear_masked, fill_over, put_over, scatter_bytes_over, scatter_over,
+    clear_masked, fill_over, put_over, put_run_over, scatter_bytes_over, scatter_over,
 };
-use raster_cells::{CellBytes, LentMask, OneValue, PixelType, PixelsFrom, Run, ValueSource};
+use raster_cells::{
+    ByteList, CellBytes, LentMask, OneValue, PixelType, PixelsFrom, Run, ValueSource,
+};
 
 /// A raster in a caller's arrays: its mask, a bit for each pixel, row by row and the highest of
 /// each byte first, stands, and its values are filled in. They lie as those of `Raster::cells` do:
@@ -243,6 +246,32 @@ impl<'v, 'm> RasterMut<'v, 'm> {
             d: d as usize,
         };
         put_over(&channel, place, self.count, values, self.values);
+    }
+
+    /// Gives the pixels from number `place` on, which are all valid, the values at a depth that the
+    /// bytes tell, each by how far it is above the number that is `below` under zero. All else
+    /// stays.
+    pub fn put_run(&mut self, place: usize, d: u32, below: u8, bytes: &[u8])
+        requires place { place + length bytes.now
+            ≤ (lent_pixels self.old).rows * (lent_pixels self.old).cols }
+        requires depth { d < (lent_pixels self.old).depth }
+        requires in_range { All (InRange (lent_pixels self.old).kind)
+            (values_above below bytes.now) }
+        requires marked { (k : ℕ) → place ≤ k → k < place + length bytes.now
+            → get_or (marks_of (lent_pixels self.old)) k false ≡ true }
+        ensures put { PutsFrom (lent_pixels self.old) (lent_pixels self.new) place d
+            (values_above below bytes.now) }
+        ensures stays { StaysLent self.old self.new }
+    {
+        let marks = self.marks();
+        let channel = Channel {
+            marks: &marks,
+            kind: self.kind,
+            depth: self.depth as usize,
+            d: d as usize,
+        };
+        let given = ByteList { bytes, below };
+        put_run_over(&channel, place, self.count, &given, self.values);
     }
 
     /// Gives each valid pixel this one value at each depth. All else stays.

@@ -14,7 +14,7 @@ ghost use Rattle.raster_cells.specs.Values.{values_bytes};
 ghost use Rattle.raster_cells.specs.Distance.{distance_of};
 
 use crate::blocks::window::{Plane, Window};
-use crate::blocks::{gathering, numbered, order};
+use crate::blocks::{gathering, numbered, order, ranging};
 use raster_cells::{CellBytes, LentMask, PixelType};
 use std::marker::Model;
 
@@ -189,7 +189,7 @@ impl<'v, 'm> RasterRef<'v, 'm> {
             depth: self.depth as usize,
             d: d as usize,
         };
-        gathering::range_of(&plane)
+        ranging::range_of(&plane)
     }
 
     /// The marks of the pixels from number `place` on: the pixels are numbered row by row, from 0.

@@ -1,7 +1,7 @@
 -- What was made of the first tiles of an input, what waits behind them, and what follows.
-use Rattle.std.specs.Prelude.{◌≡◌, ℕ, ◌+◌, ◌*◌, ◌<◌, ◌≤◌, Bool, true, false, List, [], ◌∷◌, ◌++◌, length, All, Option}
+use Rattle.std.specs.Prelude.{◌≡◌, ℕ, ◌+◌, ◌-◌, ◌*◌, ◌<◌, ◌≤◌, List, [], ◌∷◌, ◌++◌, length, All, Option}
 use Rattle.outside_io.specs.streams.Source.{IsAtEnd}
-use Rattle.raster_grids.specs.Taken.{TookBytes}
+use Rattle.raster_grids.specs.Taken.{TookBytes, TookSome}
 use Rattle.lerc_header.specs.declared.header.Version.{Version}
 use Rattle.lerc_encode.specs.Encoded.{AreEncodedOnce, BandsNeedV4}
 use Rattle.tile_stream.specs.declared.tile.Tile.{Tile}
@@ -14,6 +14,7 @@ use Rattle.tile_updates.specs.declared.updates.Next.{Next}
 use Rattle.tile_updates.specs.declared.updates.Next.TheVariants.{More, AtEnd, Refused}
 use Rattle.tile_updates.specs.declared.updates.SoFar.{SoFar}
 use Rattle.tile_updates.specs.declared.updates.Waiting.{Waiting}
+use Rattle.tile_updates.specs.Stops.{TellsStop}
 use Rattle.tile_updates.specs.Updates.{AllPass, updates_of, tile_bytes}
 
 -- ---- one tile
@@ -60,6 +61,10 @@ Follows v old new before after AtEnd = IsAtEnd old × ((new ≡ old) × (after �
 Follows v old new before after (Refused stop) =
     RefusesReading v before.place old new stop × (after ≡ before)
 
+-- a stop that may be told of any input
+abbrev pub IsFree : Version → StreamStop → Type 0
+IsFree v stop = (step : ℕ) (input : Option (List ℕ)) → TellsStop v step input stop
+
 -- ---- the tiles of a batch
 
 -- these tiles were taken from the source, from this place of the input on, and the version has a
@@ -91,11 +96,6 @@ pub record IsFilled (v : Version) (room place : ℕ) (old new : Option (List ℕ
 
 -- ---- the whole input
 
--- one tile more can be added
-pub record IsRoomy (done : SoFar) : Type 0 where
-  pub few : length done.list < 1048576
-  pub place : done.place ≤ 83886104 * length done.list
-
 -- the first tiles were taken from the input, and this was made of them
 pub record IsSoFar (v : Version) (step : ℕ) (old now : Option (List ℕ)) (done : SoFar)
     : Type 0 where
@@ -114,7 +114,12 @@ pub record IsAll (v : Version) (step : ℕ) (old now : Option (List ℕ)) (done 
   pub so_far : IsSoFar v step old now done
   pub end : IsAtEnd now
 
--- there may be more, or this is all
-abbrev pub IsMade : Version → ℕ → Option (List ℕ) → Option (List ℕ) → SoFar → Bool → Type 0
-IsMade v step old now done true = IsSoFar v step old now done
-IsMade v step old now done false = IsAll v step old now done
+-- Of the first tiles this was made, and these wait behind them.
+pub record IsHeld (v : Version) (step : ℕ) (old now : Option (List ℕ)) (done : SoFar)
+    (w : Waiting) (next : Next) : Type 0 where
+  pub from : Option (List ℕ)
+  pub so_far : IsSoFar v step old from done
+  pub few : length done.list ≤ 1048576
+  pub place : done.place ≤ 83886104 * length done.list
+  pub filled : IsFilled v (1048576 - length done.list) done.place from now w next
+  pub some : TookSome old now

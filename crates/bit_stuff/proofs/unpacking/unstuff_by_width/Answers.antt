@@ -71,3 +71,6 @@ returns-in-23-clause-read c = rw c.in-23.is c.unstuff_eights-in-23.ensures.read
 
 pub returns-in-24-clause-read : goal.returns-in-24-clause-read
 returns-in-24-clause-read c = rw c.in-24.is c.unstuff_eights-in-24.ensures.read
+
+pub returns-in-25-clause-read : goal.returns-in-25-clause-read
+returns-in-25-clause-read c = rw c.in-25.is c.unstuff_eights-in-25.ensures.read

@@ -5,8 +5,41 @@ use Rattle.raster_cells.specs.PixelType.{InRange}
 use Rattle.delta_mode.specs.Symbols.{symbol_of}
 use Rattle.delta_mode.specs.inside.Pieces.{rank, mark_at, value_of_place}
 use Rattle.delta_mode.proofs.Marks.{mask_itself, mask_through}
-use Rattle.delta_mode.proofs.PlainTaking.{depth_more, rest_more}
+use Rattle.raster_values.specs.Flat.{value_in}
+use Rattle.delta_mode.proofs.Bytewise.{rank_at, rank_full}
+use Rattle.delta_mode.proofs.PlainTaking.{depth_more, marks_full, rest_more}
 use Rattle.delta_mode.proofs.plain_taking.give_plain.Goals as goal
+
+pub give_bytes-requires-clause-depth : goal.give_bytes-requires-clause-depth
+give_bytes-requires-clause-depth g c = sym c.depth-depth.ensures.value ∙ c.if-depth-eq1.true
+
+pub give_bytes-requires-clause-valid : goal.give_bytes-requires-clause-valid
+give_bytes-requires-clause-valid g c = λ i lt.
+    let r = g.T.Target.pixels c.args.raster.now in
+    let mark = mark_at c.args.marks.now in
+    let n = length c.args.marks.now in
+    let one : r.depth ≡ 1 = sym c.depth-depth.ensures.value ∙ c.if-depth-eq1.true in
+    let inside : i < n = omega (arith, lt, c.if-symbols-marks.true) in
+    sym (c.requires.marks i inside) ∙ rank_full mark n (marks_full mark n one c.requires.count c.if-symbols-marks.true) i inside
+
+pub returns-then-symbols-marks-clause-placed : goal.returns-then-symbols-marks-clause-placed
+returns-then-symbols-marks-clause-placed g c i e lt below on =
+    let r = g.T.Target.pixels c.args.raster.now in
+    let t = g.T.Target.pixels c.give_bytes.new.raster in
+    let mark = mark_at c.args.marks.now in
+    let n = length c.args.marks.now in
+    let symbols = c.args.symbols.now in
+    let one : r.depth ≡ 1 = sym c.depth-depth.ensures.value ∙ c.if-depth-eq1.true in
+    let none : e ≡ 0 = omega (arith, below, one) in
+    let each : rank mark i ≡ i = rank_at mark n (rank_full mark n (marks_full mark n one c.requires.count c.if-symbols-marks.true)) i (omega (arith, lt)) in
+    let single : rank mark i * r.depth ≡ rank mark i * 1 = ap (λ k. rank mark i * k) one in
+    let at : rank mark i * r.depth + e ≡ i = omega (arith, single, each, none) in
+    ap (λ m. symbol_of r.kind (value_in t m (c.args.place + i))) none
+    ∙ c.give_bytes.ensures.symbols i (omega (arith, lt, c.if-symbols-marks.true)) ∙ ap (λ m. get_or symbols m 0) (sym at)
+
+pub returns-then-symbols-marks-clause-rest : goal.returns-then-symbols-marks-clause-rest
+returns-then-symbols-marks-clause-rest g c k e lt below other =
+    c.give_bytes.ensures.rest k e lt below (λ from under. other from (omega (arith, under, c.if-symbols-marks.true)))
 
 pub loop-d-init : goal.loop-d-init
 loop-d-init g c = record {

@@ -38,12 +38,6 @@ returns-then-run-clause-coded g c before front has e =
 pub overflow_sub-count : goal.overflow_sub-count
 overflow_sub-count g c = c.requires.runs.second
 
-pub slice_bounds-values-end : goal.slice_bounds-values-end
-slice_bounds-values-end g c = omega (arith, c.requires.values)
-
-pub slice_bounds-values-end-2 : goal.slice_bounds-values-end-2
-slice_bounds-values-end-2 g c = sym (length-take-le (c.args.run.end - c.args.run.start) c.args.values.now (omega (arith, c.requires.values)))
-
 pub slice_bounds-symbols-end : goal.slice_bounds-symbols-end
 slice_bounds-symbols-end g c = omega (arith, c.requires.symbols)
 
@@ -72,11 +66,6 @@ take_run-requires-clause-valid g c i lt =
     let r = g.T.Target.pixels c.args.raster.now in
     let long = length-take-le (c.args.run.end - c.args.run.start) c.args.symbols.now (omega (arith, c.requires.symbols)) in
     run_on r c.requires.runs i (omega (arith, long, lt))
-
-pub take_run-requires-clause-values : goal.take_run-requires-clause-values
-take_run-requires-clause-values g c =
-    let n = c.args.run.end - c.args.run.start in
-    length-take-le n c.args.values.now (omega (arith, c.requires.values)) ∙ sym (length-take-le n c.args.symbols.now (omega (arith, c.requires.symbols)))
 
 pub take_run-requires-clause-at : goal.take_run-requires-clause-at
 take_run-requires-clause-at g c =

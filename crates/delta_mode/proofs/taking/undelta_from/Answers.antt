@@ -17,7 +17,6 @@ loop-place-init g c =
     let none = c.start-walk.ensures.count in
     record {
       within = omega arith;
-      values = refl;
       symbols = refl;
       same = mask_itself r;
       at = at_first (is_valid r) (value_in r c.args.d) _ _ _ c.start-walk.ensures.left c.start-walk.ensures.last none;
@@ -56,9 +55,6 @@ take_next-requires-clause-within g c =
     let r = (g.T.Target.pixels c.args.raster.now) in
     let within = row_within r c.loop-place.place c.min-most.result c.cols-cols.ensures.sound c.rows.ensures.value c.cols-cols.ensures.value (omega (arith, c.loop-place-test.true)) (omega (arith, c.min-most.ensures)) in
     omega (arith, within, c.next_run-run.ensures.within, same_size r (g.T.Target.pixels c.loop-place.raster) c.loop-place.invariant.same)
-
-pub take_next-requires-clause-values : goal.take_next-requires-clause-values
-take_next-requires-clause-values g c = omega (arith, c.loop-place.invariant.values, c.next_run-run.ensures.within, c.next_run-run.ensures.runs.first, c.min-most.ensures)
 
 pub take_next-requires-clause-symbols : goal.take_next-requires-clause-symbols
 take_next-requires-clause-symbols g c = omega (arith, c.loop-place.invariant.symbols, c.next_run-run.ensures.within, c.next_run-run.ensures.runs.first, c.min-most.ensures)
@@ -105,7 +101,6 @@ loop-place-preserved g c =
     let at = transport (λ i. IsAt (marks i) value stop walk.left walk.last walk.count) w.at in
     record {
       within = within;
-      values = c.take_next.auto.values ∙ inv.values;
       symbols = c.take_next.auto.symbols ∙ inv.symbols;
       same = mask_through r s t inv.same w.frame.same;
       at = at;

@@ -9,8 +9,7 @@ use Rattle.delta_mode.proofs.taking.undelta_from.Given as goal
 abbrev pub invariant-loop-place : goal.invariant-loop-place
 invariant-loop-place g l = record {
   within : l.place ≤ (g.T.Target.pixels l.fn.raster).rows * (g.T.Target.pixels l.fn.raster).cols;
-  values : length l.values ≡ 128;
-  symbols : length l.symbols ≡ 128;
+  symbols : length l.symbols ≡ 1024;
   same : SameMask (g.T.Target.pixels l.fn.raster) (g.T.Target.pixels l.raster);
   at : IsAt (is_valid (g.T.Target.pixels l.fn.raster)) (value_in (g.T.Target.pixels l.raster) l.fn.d) l.place l.walk.left l.walk.last l.walk.count;
   left : l.walk.count + g.S.SymbolSource.left l.source ≡ g.S.SymbolSource.left l.fn.source;

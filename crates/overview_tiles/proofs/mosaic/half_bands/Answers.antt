@@ -1,19 +1,38 @@
 use Rattle.std.proofs.Common.{◌≡◌, ◌+◌, ◌*◌, ◌≤◌, ◌++◌, ◌∷◌, [], ℕ, List, length, get_or, ap, sym, subst, ◌∙◌, arith}
 use Rattle.std.specs.Prelude.{slice_get}
-use Rattle.std.proofs.lemmas.List.{get_or_default, length_push}
+use Rattle.std.proofs.lemmas.List.{length_push}
+use Rattle.raster_cells.specs.declared.kind.PixelType.{PixelType}
 use Rattle.raster_values.specs.Raster.{Pixels}
 use Rattle.overview_tiles.specs.Sums.{Sums, no_sums}
 use Rattle.overview_tiles.specs.inside.Means.{HasMeans, HaveMeans}
+use Rattle.overview_tiles.specs.inside.Numbers.{Numbers, sums_of}
+use Rattle.overview_tiles.proofs.Bands.{kind_at, sums_at}
 use Rattle.overview_tiles.proofs.HalfBands.{each_may_be, each_push}
 use Rattle.overview_tiles.proofs.mosaic.half_bands.Goals as goal
 
-pub half_band-requires-in-loop-b-clause-means : goal.half_band-requires-in-loop-b-clause-means
-half_band-requires-in-loop-b-clause-means c =
+-- ---- the first band
+
+pub half-requires-clause-means : goal.half-requires-clause-means
+half-requires-clause-means c =
+    let layers = c.args.layers.now in
+    let one = c.index-layers-0.result in
+    let is : one ≡ get_or layers 0 one = c.index-layers-0.is in
+    let kind : one.kind ≡ c.args.kind = ap (λ (n : Numbers). n.kind) is ∙ kind_at layers c.args.kind 0 one c.requires.kinds c.requires.some in
+    let same : one.sums ≡ get_or (sums_of layers) 0 no_sums = ap (λ (n : Numbers). n.sums) is ∙ sym (sums_at layers 0 one c.requires.some) in
+    subst (λ (k : PixelType). HaveMeans k (c.args.rows * c.args.cols) c.args.depth one.sums.counts one.sums.sums) (sym kind) (subst (λ (s : Sums). HaveMeans c.args.kind (c.args.rows * c.args.cols) c.args.depth s.counts s.sums) (sym same) (c.requires.means 0 c.requires.some))
+
+-- ---- the others
+
+pub half-requires-in-loop-b-clause-means : goal.half-requires-in-loop-b-clause-means
+half-requires-in-loop-b-clause-means c =
     let layers = c.args.layers.now in
     let b = c.loop-b.b in
     let one = c.index-layers-b.result in
-    let same : one ≡ get_or layers b no_sums = c.index-layers-b.is ∙ get_or_default layers b one no_sums c.loop-b-test.true in
-    subst (λ (s : Sums). HaveMeans c.args.kind (c.args.rows * c.args.cols) c.args.depth s.counts s.sums) (sym same) (c.requires.means b c.loop-b-test.true)
+    let inside = c.loop-b-test.true in
+    let is : one ≡ get_or layers b one = c.index-layers-b.is in
+    let kind : one.kind ≡ c.args.kind = ap (λ (n : Numbers). n.kind) is ∙ kind_at layers c.args.kind b one c.requires.kinds inside in
+    let same : one.sums ≡ get_or (sums_of layers) b no_sums = ap (λ (n : Numbers). n.sums) is ∙ sym (sums_at layers b one inside) in
+    subst (λ (k : PixelType). HaveMeans k (c.args.rows * c.args.cols) c.args.depth one.sums.counts one.sums.sums) (sym kind) (subst (λ (s : Sums). HaveMeans c.args.kind (c.args.rows * c.args.cols) c.args.depth s.counts s.sums) (sym same) (c.requires.means b inside))
 
 pub push-requires : goal.push-requires
 push-requires c =
@@ -22,11 +41,14 @@ push-requires c =
     let half = c.loop-b.half in
     let band = c.in_ok-band.band in
     let one = c.index-layers-b.result in
-    let same : one ≡ get_or layers b no_sums = c.index-layers-b.is ∙ get_or_default layers b one no_sums c.loop-b-test.true in
-    let P : ℕ → Pixels → Type 0 = λ k r. HasMeans c.args.kind c.args.rows c.args.cols c.args.depth (get_or layers k no_sums) r in
-    let here : P b band = subst (λ (s : Sums). HasMeans c.args.kind c.args.rows c.args.cols c.args.depth s band) same c.in_ok-band.ensures in
+    let inside = c.loop-b-test.true in
+    let is : one ≡ get_or layers b one = c.index-layers-b.is in
+    let kind : one.kind ≡ c.args.kind = ap (λ (n : Numbers). n.kind) is ∙ kind_at layers c.args.kind b one c.requires.kinds inside in
+    let same : one.sums ≡ get_or (sums_of layers) b no_sums = ap (λ (n : Numbers). n.sums) is ∙ sym (sums_at layers b one inside) in
+    let P : ℕ → Pixels → Type 0 = λ k r. HasMeans c.args.kind c.args.rows c.args.cols c.args.depth (get_or (sums_of layers) k no_sums) r in
+    let here : P b band = subst (λ (s : Sums). HasMeans c.args.kind c.args.rows c.args.cols c.args.depth s band) same (subst (λ (k : PixelType). HasMeans k c.args.rows c.args.cols c.args.depth one.sums band) kind c.in_ok-band.ensures) in
     let last : P (length half) band = subst (λ k. P k band) (sym c.loop-b.invariant.count) here in
-    each_may_be c.args.kind c.args.rows c.args.cols c.args.depth (length layers) layers (half ++ band ∷ []) c.requires.few c.requires.size
+    each_may_be c.args.kind c.args.rows c.args.cols c.args.depth (length layers) (sums_of layers) (half ++ band ∷ []) c.requires.few c.requires.size
     (omega (arith, length_push half band, c.loop-b.invariant.count, c.loop-b-test.true)) (each_push P half band c.loop-b.invariant.each last)
 
 pub loop-b-preserved : goal.loop-b-preserved
@@ -36,9 +58,12 @@ loop-b-preserved c =
     let half = c.loop-b.half in
     let band = c.in_ok-band.band in
     let one = c.index-layers-b.result in
-    let same : one ≡ get_or layers b no_sums = c.index-layers-b.is ∙ get_or_default layers b one no_sums c.loop-b-test.true in
-    let P : ℕ → Pixels → Type 0 = λ k r. HasMeans c.args.kind c.args.rows c.args.cols c.args.depth (get_or layers k no_sums) r in
-    let here : P b band = subst (λ (s : Sums). HasMeans c.args.kind c.args.rows c.args.cols c.args.depth s band) same c.in_ok-band.ensures in
+    let inside = c.loop-b-test.true in
+    let is : one ≡ get_or layers b one = c.index-layers-b.is in
+    let kind : one.kind ≡ c.args.kind = ap (λ (n : Numbers). n.kind) is ∙ kind_at layers c.args.kind b one c.requires.kinds inside in
+    let same : one.sums ≡ get_or (sums_of layers) b no_sums = ap (λ (n : Numbers). n.sums) is ∙ sym (sums_at layers b one inside) in
+    let P : ℕ → Pixels → Type 0 = λ k r. HasMeans c.args.kind c.args.rows c.args.cols c.args.depth (get_or (sums_of layers) k no_sums) r in
+    let here : P b band = subst (λ (s : Sums). HasMeans c.args.kind c.args.rows c.args.cols c.args.depth s band) same (subst (λ (k : PixelType). HasMeans k c.args.rows c.args.cols c.args.depth one.sums band) kind c.in_ok-band.ensures) in
     let last : P (length half) band = subst (λ k. P k band) (sym c.loop-b.invariant.count) here in
     let new : c.push.new.self ≡ half ++ band ∷ [] = c.in_ok-push.ensures.ok in
     record {
@@ -52,4 +77,4 @@ returns c =
     let half = c.loop-b.half in
     let high : c.loop-b.b ≤ length layers = c.loop-b.auto.b-end (omega (arith, c.requires.some)) in
     let count : length half ≡ length layers = omega (arith, c.loop-b.invariant.count, c.loop-b-test.false, high) in
-    ((omega (arith, count, c.requires.some), each_may_be c.args.kind c.args.rows c.args.cols c.args.depth (length layers) layers half c.requires.few c.requires.size (omega (arith, count)) c.loop-b.invariant.each), (count, c.loop-b.invariant.each))
+    ((omega (arith, count, c.requires.some), each_may_be c.args.kind c.args.rows c.args.cols c.args.depth (length layers) (sums_of layers) half c.requires.few c.requires.size (omega (arith, count)) c.loop-b.invariant.each), (count, c.loop-b.invariant.each))

@@ -1,49 +1,34 @@
-use Rattle.std.proofs.Common.{ℕ, List, None, refl}
-use Rattle.std.specs.Prelude.{IfErr, IfOk}
+use Rattle.std.proofs.Common.{◌∙◌, ℕ, List, subst}
 use Rattle.outside_io.specs.declared.volume.VolFile.TheVariants.{Bundle}
 use Rattle.outside_io.specs.volume.History.{contents}
-use Rattle.overview_tiles.specs.Tiles.{no_tiles}
-use Rattle.overview_updates.specs.inside.Laid.{IsRead}
-use Rattle.overview_updates.specs.Refusals.{FourStops}
-use Rattle.overview_updates.proofs.NextQuarter.{more_so_far, none_read, none_so_far, says_on}
+use Rattle.overview_updates.specs.inside.Fours.{QuarterSays}
+use Rattle.overview_updates.proofs.Rounds.{four_fit, four_says}
+use Rattle.overview_updates.proofs.Still.{said_before, still_join}
 use Rattle.overview_updates.proofs.quarters.read_four.Goals as goal
 
-pub returns-in-Err-clause-refused : goal.returns-in-Err-clause-refused
-returns-in-Err-clause-refused g c = λ tells. c.in-Err.ensures.refused tells no_tiles (none_read (contents Bundle (g.V.Volume.history c.args.vol.now)) c.args.row c.args.col) (λ q. refl)
+pub returns-clause-four : goal.returns-clause-four
+returns-clause-four g c = λ tells.
+    let h = g.V.Volume.history in
+    let start = h c.args.vol.now in
+    let one = c.in-Ok.ensures in
+    let two = c.in-Ok-read_quarter.ensures in
+    let three = c.in-Ok-read_quarter-2.ensures in
+    let four = c.in-Ok-read_quarter-3.ensures in
+    let k = c.args.place in
+    let told1 = one.reads.same ∙ tells in
+    let told2 = two.reads.same ∙ told1 in
+    let told3 = three.reads.same ∙ told2 in
+    let stays1 = one.reads.during tells in
+    let stays2 = still_join start (h c.read_quarter.new.vol) (h c.read_quarter-2.new.vol) stays1 (two.reads.during told1) in
+    let stays3 = still_join start (h c.read_quarter-2.new.vol) (h c.read_quarter-3.new.vol) stays2 (three.reads.during told2) in
+    four_says (contents Bundle start) k c.in-Ok.first c.in-Ok-read_quarter.second c.in-Ok-read_quarter-2.third c.in-Ok-read_quarter-3.last
+    (subst (λ (n : ℕ). QuarterSays (contents Bundle start) n c.in-Ok.first) c.slot_of.ensures (one.quarter tells))
+    (subst (λ (n : ℕ). QuarterSays (contents Bundle start) n c.in-Ok-read_quarter.second) c.slot_of-2.ensures (said_before (λ (b : List ℕ). QuarterSays b c.slot_of-2.result c.in-Ok-read_quarter.second) start (h c.read_quarter.new.vol) stays1 (two.quarter told1)))
+    (subst (λ (n : ℕ). QuarterSays (contents Bundle start) n c.in-Ok-read_quarter-2.third) c.slot_of-3.ensures (said_before (λ (b : List ℕ). QuarterSays b c.slot_of-3.result c.in-Ok-read_quarter-2.third) start (h c.read_quarter-2.new.vol) stays2 (three.quarter told2)))
+    (subst (λ (n : ℕ). QuarterSays (contents Bundle start) n c.in-Ok-read_quarter-3.last) c.slot_of-4.ensures (said_before (λ (b : List ℕ). QuarterSays b c.slot_of-4.result c.in-Ok-read_quarter-3.last) start (h c.read_quarter-3.new.vol) stays3 (four.quarter told3)))
 
-pub returns-in-Err-add_quarter-clause-refused : goal.returns-in-Err-add_quarter-clause-refused
-returns-in-Err-add_quarter-clause-refused g c = λ tells.
-    let row = c.args.row in
-    let col = c.args.col in
-    let none = none_so_far (g.V.Volume.told c.args.vol.now) (g.V.Volume.history c.args.vol.now) row col in
-    let one = more_so_far _ _ _ _ _ _ row col 0 None c.in-Ok.first none c.in-Ok.ensures.reads.same c.in-Ok.ensures.reads.during c.in-Ok.ensures.read in
-    says_on _ _ _ _ row col 1 c.in-Ok.first (λ (b : List ℕ). FourStops b row col c.in-Err-add_quarter.stop) one tells c.in-Err-add_quarter.ensures.refused
-
-pub returns-in-Err-add_quarter-2-clause-refused : goal.returns-in-Err-add_quarter-2-clause-refused
-returns-in-Err-add_quarter-2-clause-refused g c = λ tells.
-    let row = c.args.row in
-    let col = c.args.col in
-    let none = none_so_far (g.V.Volume.told c.args.vol.now) (g.V.Volume.history c.args.vol.now) row col in
-    let one = more_so_far _ _ _ _ _ _ row col 0 None c.in-Ok.first none c.in-Ok.ensures.reads.same c.in-Ok.ensures.reads.during c.in-Ok.ensures.read in
-    let two = more_so_far _ _ _ _ _ _ row col 1 c.in-Ok.first c.in-Ok-add_quarter.second one c.in-Ok-add_quarter.ensures.reads.same c.in-Ok-add_quarter.ensures.reads.during c.in-Ok-add_quarter.ensures.read in
-    says_on _ _ _ _ row col 2 c.in-Ok-add_quarter.second (λ (b : List ℕ). FourStops b row col c.in-Err-add_quarter-2.stop) two tells c.in-Err-add_quarter-2.ensures.refused
-
-pub returns-clause-read : goal.returns-clause-read
-returns-clause-read g c = λ tells.
-    let row = c.args.row in
-    let col = c.args.col in
-    let none = none_so_far (g.V.Volume.told c.args.vol.now) (g.V.Volume.history c.args.vol.now) row col in
-    let one = more_so_far _ _ _ _ _ _ row col 0 None c.in-Ok.first none c.in-Ok.ensures.reads.same c.in-Ok.ensures.reads.during c.in-Ok.ensures.read in
-    let two = more_so_far _ _ _ _ _ _ row col 1 c.in-Ok.first c.in-Ok-add_quarter.second one c.in-Ok-add_quarter.ensures.reads.same c.in-Ok-add_quarter.ensures.reads.during c.in-Ok-add_quarter.ensures.read in
-    let three = more_so_far _ _ _ _ _ _ row col 2 c.in-Ok-add_quarter.second c.in-Ok-add_quarter-2.third two c.in-Ok-add_quarter-2.ensures.reads.same c.in-Ok-add_quarter-2.ensures.reads.during c.in-Ok-add_quarter-2.ensures.read in
-    says_on _ _ _ _ row col 3 c.in-Ok-add_quarter-2.third (λ (b : List ℕ). IfOk c.add_quarter-4.result (λ mosaic. IsRead b row col 4 mosaic)) three tells c.add_quarter-4.ensures.read
-
-pub returns-clause-refused : goal.returns-clause-refused
-returns-clause-refused g c = λ tells.
-    let row = c.args.row in
-    let col = c.args.col in
-    let none = none_so_far (g.V.Volume.told c.args.vol.now) (g.V.Volume.history c.args.vol.now) row col in
-    let one = more_so_far _ _ _ _ _ _ row col 0 None c.in-Ok.first none c.in-Ok.ensures.reads.same c.in-Ok.ensures.reads.during c.in-Ok.ensures.read in
-    let two = more_so_far _ _ _ _ _ _ row col 1 c.in-Ok.first c.in-Ok-add_quarter.second one c.in-Ok-add_quarter.ensures.reads.same c.in-Ok-add_quarter.ensures.reads.during c.in-Ok-add_quarter.ensures.read in
-    let three = more_so_far _ _ _ _ _ _ row col 2 c.in-Ok-add_quarter.second c.in-Ok-add_quarter-2.third two c.in-Ok-add_quarter-2.ensures.reads.same c.in-Ok-add_quarter-2.ensures.reads.during c.in-Ok-add_quarter-2.ensures.read in
-    says_on _ _ _ _ row col 3 c.in-Ok-add_quarter-2.third (λ (b : List ℕ). IfErr c.add_quarter-4.result (λ stop. FourStops b row col stop)) three tells c.add_quarter-4.ensures.refused
+pub returns-clause-readable : goal.returns-clause-readable
+returns-clause-readable g c = record {
+  place = c.requires.place;
+  fits = four_fit c.in-Ok.first c.in-Ok-read_quarter.second c.in-Ok-read_quarter-2.third c.in-Ok-read_quarter-3.last c.in-Ok.ensures.fits c.in-Ok-read_quarter.ensures.fits c.in-Ok-read_quarter-2.ensures.fits c.in-Ok-read_quarter-3.ensures.fits;
+}

@@ -1,88 +1,28 @@
-use Rattle.std.proofs.Common.{◌≡◌, ◌∙◌, ◌<◌, ◌≤◌, List, [], ◌∷◌, ◌++◌, None, length, map, sym, ap, subst, refl, arith, append_assoc, length-append}
+use Rattle.std.proofs.Common.{◌∙◌, List, None, map, sym, ap, subst}
 use Rattle.std.specs.Prelude.{All}
-use Rattle.std.proofs.lemmas.List.{length-map}
 use Rattle.raster_values.specs.Raster.{Pixels}
 use Rattle.lerc_encode.specs.Choice.{chosen_bands}
-use Rattle.lerc_encode.specs.Encoded.{AreEncodedOnce, BandsNeedV4}
+use Rattle.lerc_encode.specs.Encoded.{AreEncodedOnce}
 use Rattle.tile_stream.specs.declared.tile.Tile.{Tile}
-use Rattle.tile_updates.specs.Adding.{MayBeAdded, TellsBatchStop}
-use Rattle.tile_updates.specs.Tiles.{tiles_of}
-use Rattle.tile_updates.specs.Updates.{tile_bytes, updates_of}
-use Rattle.tile_updates.proofs.Adding.{all_added, all_of, next_added, next_blob, next_stops}
-use Rattle.tile_updates.proofs.Tiles.{tiles_length}
+use Rattle.tile_updates.specs.Updates.{tile_bytes}
+use Rattle.tile_updates.proofs.Adding.{all_of, blobs_of}
+use Rattle.tile_updates.proofs.Results.{on_ok}
 use Rattle.tile_updates.proofs.encoding.encode_batch.Goals as goal
 
-pub returns-in-Err-add-clause-refused : goal.returns-in-Err-add-clause-refused
-returns-in-Err-add-clause-refused g c =
+pub add_blobs-requires-clause-blobs : goal.add_blobs-requires-clause-blobs
+add_blobs-requires-clause-blobs g c =
     let v = c.args.coding.version in
     let step = c.args.coding.step in
     let slots = c.batch.inside.slots.items in
     let bands = c.batch.inside.tiles.items in
-    let i = c.loop-blob.i in
-    let inv = c.loop-blob.invariant in
-    let rest = c.next.new.self.rest.items in
-    let blobs = map (λ (t : List Pixels). chosen_bands None t v step) bands in
-    let joined : c.loop-blob.yielded ++ c.in-Some.blob ∷ rest ≡ blobs = ap (λ r. c.loop-blob.yielded ++ r) (sym c.in-Some.ensures.steps.0) ∙ inv.1.0 in
-    let whole : length (c.loop-blob.yielded ++ c.in-Some.blob ∷ rest) ≡ length bands = ap length joined ∙ length-map bands (λ (t : List Pixels). chosen_bands None t v step) in
-    let below : i < length bands = omega (arith, inv.0, whole, length-append c.loop-blob.yielded (c.in-Some.blob ∷ rest)) in
-    let next = next_blob v step slots bands i c.index.result.now c.loop-blob.yielded rest blobs c.in-Some.blob c.batch.invariant.long below c.index.ensures inv.0 joined refl in
-    subst (λ (ts : List Tile). TellsBatchStop v step c.args.list.now ts c.in-Err-add.stop) c.batch.view_is
-    (next_stops v step c.args.list.now slots bands i c.index.result.now c.in-Some.blob c.loop-blob.list c.in-Err-add.stop c.batch.invariant.long below next inv.1.1 c.in-Err-add.ensures.refused)
+    c.in-Ok.ensures.blobs ∙ ap (map (λ (t : List Pixels). chosen_bands None t v step)) c.as_slice.ensures.value
+    ∙ sym (blobs_of v step slots bands c.batch.invariant.long) ∙ ap (map (tile_bytes v step)) c.batch.view_is
 
-pub loop-blob-preserved : goal.loop-blob-preserved
-loop-blob-preserved g c =
-    let v = c.args.coding.version in
-    let step = c.args.coding.step in
-    let slots = c.batch.inside.slots.items in
-    let bands = c.batch.inside.tiles.items in
-    let i = c.loop-blob.i in
-    let inv = c.loop-blob.invariant in
-    let rest = c.next.new.self.rest.items in
-    let blobs = map (λ (t : List Pixels). chosen_bands None t v step) bands in
-    let joined : c.loop-blob.yielded ++ c.in-Some.blob ∷ rest ≡ blobs = ap (λ r. c.loop-blob.yielded ++ r) (sym c.in-Some.ensures.steps.0) ∙ inv.1.0 in
-    let whole : length (c.loop-blob.yielded ++ c.in-Some.blob ∷ rest) ≡ length bands = ap length joined ∙ length-map bands (λ (t : List Pixels). chosen_bands None t v step) in
-    let below : i < length bands = omega (arith, inv.0, whole, length-append c.loop-blob.yielded (c.in-Some.blob ∷ rest)) in
-    let next = next_blob v step slots bands i c.index.result.now c.loop-blob.yielded rest blobs c.in-Some.blob c.batch.invariant.long below c.index.ensures inv.0 joined refl in
-    let flat = subst (All (λ t. ¬ BandsNeedV4 v t.bands)) (sym c.batch.view_is) c.requires.flat in (
-      omega (arith, inv.0, length-append c.loop-blob.yielded (c.in-Some.blob ∷ [])),
-      (
-        append_assoc c.loop-blob.yielded (c.in-Some.blob ∷ []) rest ∙ joined,
-        next_added v step c.args.list.now slots bands i c.index.result.now c.in-Some.blob c.loop-blob.list c.add.new.self c.batch.invariant.long below flat next inv.1.1 c.in_default.ensures.added c.in_default.ensures.small c.in_default.ensures.kept,
-      ),
-    )
-
-pub returns-clause-added : goal.returns-clause-added
-returns-clause-added g c =
-    let v = c.args.coding.version in
-    let step = c.args.coding.step in
-    let slots = c.batch.inside.slots.items in
-    let bands = c.batch.inside.tiles.items in
-    let inv = c.loop-blob.invariant in
-    let rest = c.loop-blob.blob-iterator.rest.items in
-    let none : length rest ≡ 0 = sym c.loop-blob.blob-iterator.rest.ok.0 ∙ c.in-None.ensures.steps.0 in
-    let whole : length (c.loop-blob.yielded ++ rest) ≡ length bands = ap length inv.1.0 ∙ length-map bands (λ (t : List Pixels). chosen_bands None t v step) in
-    let count = tiles_length slots bands c.batch.invariant.long in
-    let all : length (tiles_of slots bands) ≤ c.loop-blob.i = omega (arith, inv.0, whole, none, count, length-append c.loop-blob.yielded rest) in
-    subst (λ (ts : List Tile). c.loop-blob.list ≡ c.args.list.now ++ updates_of v step ts) c.batch.view_is (all_added v step c.args.list.now (tiles_of slots bands) c.loop-blob.i c.loop-blob.list all inv.1.1).0
-
-pub returns-clause-passed : goal.returns-clause-passed
-returns-clause-passed g c =
-    let v = c.args.coding.version in
-    let step = c.args.coding.step in
-    let slots = c.batch.inside.slots.items in
-    let bands = c.batch.inside.tiles.items in
-    let inv = c.loop-blob.invariant in
-    let rest = c.loop-blob.blob-iterator.rest.items in
-    let none : length rest ≡ 0 = sym c.loop-blob.blob-iterator.rest.ok.0 ∙ c.in-None.ensures.steps.0 in
-    let whole : length (c.loop-blob.yielded ++ rest) ≡ length bands = ap length inv.1.0 ∙ length-map bands (λ (t : List Pixels). chosen_bands None t v step) in
-    let count = tiles_length slots bands c.batch.invariant.long in
-    let all : length (tiles_of slots bands) ≤ c.loop-blob.i = omega (arith, inv.0, whole, none, count, length-append c.loop-blob.yielded rest) in
-    subst (MayBeAdded v step c.args.list.now) c.batch.view_is (all_added v step c.args.list.now (tiles_of slots bands) c.loop-blob.i c.loop-blob.list all inv.1.1).1
-
-pub returns-clause-encoded : goal.returns-clause-encoded
-returns-clause-encoded g c =
+pub returns-in-Ok-clause-encoded : goal.returns-in-Ok-clause-encoded
+returns-in-Ok-clause-encoded g c =
     let v = c.args.coding.version in
     let step = c.args.coding.step in
     let bands = c.batch.inside.tiles.items in
     let are = subst (All (λ (b : List Pixels). AreEncodedOnce (chosen_bands None b v step) b step)) c.as_slice.ensures.value c.in-Ok.ensures.encoded in
-    subst (All (λ (t : Tile). AreEncodedOnce (tile_bytes v step t) t.bands step)) c.batch.view_is (all_of (λ (b : List Pixels). AreEncodedOnce (chosen_bands None b v step) b step) c.batch.inside.slots.items bands are)
+    on_ok c.add_blobs.result (All (λ (t : Tile). AreEncodedOnce (tile_bytes v step t) t.bands step) c.args.batch)
+    (subst (All (λ (t : Tile). AreEncodedOnce (tile_bytes v step t) t.bands step)) c.batch.view_is (all_of (λ (b : List Pixels). AreEncodedOnce (chosen_bands None b v step) b step) c.batch.inside.slots.items bands are))

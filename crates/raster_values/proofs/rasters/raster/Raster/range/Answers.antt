@@ -1,4 +1,6 @@
 use Rattle.std.proofs.Common.{◌<◌, ◌*◌, ◌∙◌, Bool, List, ap, sym, subst, length, arith}
+use Rattle.std.specs.Prelude.{All}
+use Rattle.raster_cells.specs.PixelType.{InRange}
 use Rattle.raster_values.specs.Raster.{Pixels}
 use Rattle.raster_values.specs.Flat.{depth_values}
 use Rattle.raster_cells.specs.CellList.{CellList}
@@ -33,3 +35,6 @@ invariant_of-plane-clause-size c =
 
 pub invariant_of-plane-clause-few : goal.invariant_of-plane-clause-few
 invariant_of-plane-clause-few c = omega (arith, ap (λ (l : CellList). length l.values) c.read-samples.ensures, c.self.invariant.values, c.self.invariant.shape.size)
+
+pub range_of-requires : goal.range_of-requires
+range_of-requires c = subst (λ (l : CellList). All (InRange l.kind) l.values) (sym c.read-samples.ensures) c.self.invariant.in_range

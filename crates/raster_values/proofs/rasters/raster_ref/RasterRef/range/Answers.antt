@@ -22,3 +22,6 @@ returns-clause-empty c = empty_is c.range_of.result (depth_values c.args.self.no
 
 pub returns-clause-none : goal.returns-clause-none
 returns-clause-none c = none_is c.range_of.result c.args.self.now c.args.d (ranged c)
+
+pub range_of-requires : goal.range_of-requires
+range_of-requires c = c.self.invariant.in_range
